@@ -1,0 +1,90 @@
+-- Each body is read off its bytes, and whatever is read as a body is its bytes.
+use mathlib.Core.Path.{_≡_, refl, sym, _∙_}
+use mathlib.Core.List.{List, [], _∷_, _++_, append-assoc}
+use mathlib.Core.Bool.{true}
+use Prim.Native.Nat.{ℕ}
+use lib.ListN.{length}
+use Rattle.wire.specs.Bytes.{IsBytes, int}
+use Rattle.sedna.specs.declared.Shape.{Shape}
+use Rattle.sedna.specs.declared.Shape.the-variants as shape
+use Rattle.sedna.specs.Message.{Body, shapeOf}
+use Rattle.sedna.specs.Allowed.{allowed, versionAllowed, formatAllowed, classAllowed, typeAllowed}
+use Rattle.sedna.specs.Encode.{string, urlBytes, pairsBytes, bodyBytes}
+use Rattle.sedna_read.specs.Fields.{Got, goOn, _>>_, give, byteField, intField, stringField, nothingLeft}
+use Rattle.sedna_read.specs.Reading.{sessionFields, textFields, statementFields, codedFields, pairsField, optionsFields, itemFields, fieldsOf, bodyField}
+use Rattle.sedna_exact.proofs.Branches.{apart, both}
+use Rattle.sedna_exact.proofs.Bytes.{bytes-behind}
+use Rattle.sedna_exact.proofs.Steps.{whole, past, passed, given}
+use Rattle.sedna_exact.proofs.Fields.{byte-back, int-forth, int-back, string-forth, string-back}
+use Rattle.sedna_exact.proofs.Pairs.{pairs-count, pairs-forth, pairs-back}
+use Rattle.sedna_exact.proofs.Urls.{flaggedUrl, flagged, url-forth, url-back}
+
+fields-forth : (b : Body) → allowed b ≡ true → IsBytes (bodyBytes b) → fieldsOf (shapeOf b) (bodyBytes b) ≡ Got.got b []
+unfolding allowed bodyBytes sessionFields textFields statementFields codedFields optionsFields itemFields
+fields-forth Body.empty ok h = refl
+fields-forth (Body.session major minor user database) ok h =
+    let h′ : IsBytes (string user ++ string database) = bytes-behind (major ∷ minor ∷ []) (string user ++ string database) h in
+    rw (ok, string-forth user (string database) h′, whole stringField string string-forth database (bytes-behind (string user) (string database) h′))
+fields-forth (Body.text t) ok h = rw (whole stringField string string-forth t h)
+fields-forth (Body.statement format t) ok h = rw (ok, whole stringField string string-forth t (bytes-behind (format ∷ []) (string t) h))
+fields-forth (Body.coded code t) ok h = rw (int-forth code (string t) h, whole stringField string string-forth t (bytes-behind (int code) (string t) h))
+fields-forth (Body.options pairs) ok h = rw (pairs-forth pairs (length (pairsBytes pairs)) (pairs-count pairs) h)
+fields-forth (Body.item class kind url part) ok h =
+    let oks = both (classAllowed class) (typeAllowed kind) .0 ok in
+    let h′ : IsBytes (urlBytes url ++ string part) = bytes-behind (class ∷ kind ∷ []) (urlBytes url ++ string part) h in
+    rw (oks .0, oks .1) (flagged (urlBytes url ++ string part) _ ∙ rw (url-forth url (string part) h′, whole stringField string string-forth part (bytes-behind (urlBytes url) (string part) h′)))
+
+-- b was read off s as a body of that shape, and rest is left
+pub record Read (of : Shape) (s : List ℕ) (b : Body) (rest : List ℕ) : Type 0 where
+  pub split : s ≡ bodyBytes b ++ rest
+  pub shape : shapeOf b ≡ of
+  pub values : allowed b ≡ true
+
+fields-back : (of : Shape) (s : List ℕ) (b : Body) (rest : List ℕ) → IsBytes s → fieldsOf of s ≡ Got.got b rest → Read of s b rest
+unfolding allowed bodyBytes sessionFields textFields statementFields codedFields optionsFields itemFields
+fields-back shape.Empty s b rest h e = given (Read shape.Empty s) e (record { split = refl; shape = refl; values = refl })
+fields-back shape.Session s b rest h e =
+    past byteField (λ x. x ∷ []) byte-back s _ h e λ major s₁ p₁ h₁ e₁.
+    past byteField (λ x. x ∷ []) byte-back s₁ _ h₁ e₁ λ minor s₂ p₂ h₂ e₂.
+    passed (versionAllowed major minor) _ s₂ _ e₂ λ ok e₃.
+    past stringField string string-back s₂ _ h₂ e₃ λ user s₃ p₃ h₃ e₄.
+    past stringField string string-back s₃ _ h₃ e₄ λ database s₄ p₄ h₄ e₅.
+    given (Read shape.Session s) e₅ (record { split = rw (append-assoc, p₁, p₂, p₃, p₄); shape = refl; values = ok })
+fields-back shape.Text s b rest h e =
+    past stringField string string-back s _ h e λ t s₁ p₁ h₁ e₁.
+    given (Read shape.Text s) e₁ (record { split = p₁; shape = refl; values = refl })
+fields-back shape.Statement s b rest h e =
+    past byteField (λ x. x ∷ []) byte-back s _ h e λ format s₁ p₁ h₁ e₁.
+    passed (formatAllowed format) _ s₁ _ e₁ λ ok e₂.
+    past stringField string string-back s₁ _ h₁ e₂ λ t s₂ p₂ h₂ e₃.
+    given (Read shape.Statement s) e₃ (record { split = rw (p₁, p₂); shape = refl; values = ok })
+fields-back shape.Coded s b rest h e =
+    past intField int int-back s _ h e λ code s₁ p₁ h₁ e₁.
+    past stringField string string-back s₁ _ h₁ e₁ λ t s₂ p₂ h₂ e₂.
+    given (Read shape.Coded s) e₂ (record { split = rw (append-assoc, p₁, p₂); shape = refl; values = refl })
+fields-back shape.Options s b rest h e =
+    past (pairsField (length s)) pairsBytes (pairs-back (length s)) s _ h e λ pairs s₁ p₁ h₁ e₁.
+    given (Read shape.Options s) e₁ (record { split = p₁; shape = refl; values = refl })
+fields-back shape.Item s b rest h e =
+    past byteField (λ x. x ∷ []) byte-back s _ h e λ class s₁ p₁ h₁ e₁.
+    passed (classAllowed class) _ s₁ _ e₁ λ ok e₂.
+    past byteField (λ x. x ∷ []) byte-back s₁ _ h₁ e₂ λ kind s₂ p₂ h₂ e₃.
+    passed (typeAllowed kind) _ s₂ _ e₃ λ ok′ e₄.
+    past flaggedUrl urlBytes url-back s₂ _ h₂ (sym (flagged s₂ _) ∙ e₄) λ url s₃ p₃ h₃ e₅.
+    past stringField string string-back s₃ _ h₃ e₅ λ part s₄ p₄ h₄ e₆.
+    given (Read shape.Item s) e₆ (record { split = rw (append-assoc, p₁, p₂, p₃, p₄); shape = refl; values = both (classAllowed class) (typeAllowed kind) .1 (ok, ok′) })
+
+-- a body's bytes are read as the body, and nothing is left
+pub body-forth : (b : Body) → allowed b ≡ true → IsBytes (bodyBytes b) → bodyField (shapeOf b) (bodyBytes b) ≡ Got.got b []
+unfolding bodyField
+body-forth b ok h = rw (fields-forth b ok h)
+
+-- whatever is read as a body is its bytes, all of them
+pub body-back : (of : Shape) (s : List ℕ) (b : Body) (rest : List ℕ) → IsBytes s → bodyField of s ≡ Got.got b rest → Read of s b []
+unfolding bodyField
+body-back of s b rest h = by (fieldsOf of s) refl
+  where
+    by : (g : Got Body) → fieldsOf of s ≡ g → goOn g (λ a. _>>_ nothingLeft (give a)) ≡ Got.got b rest → Read of s b []
+    by (Got.refused r) q e = apart (cc)
+    by (Got.got a []) q e = fields-back of s b [] h (q ∙ cc)
+    by (Got.got a (x ∷ l)) q e = apart (cc)

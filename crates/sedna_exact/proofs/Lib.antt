@@ -1,0 +1,11 @@
+pub mod Accepted
+pub mod Bodies
+pub mod Branches
+pub mod Bytes
+pub mod Exact
+pub mod Fields
+pub mod Heads
+pub mod Pairs
+pub mod Steps
+pub mod Table
+pub mod Urls

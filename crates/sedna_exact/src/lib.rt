@@ -1,0 +1,1 @@
+// Reading is exact: accepted are the published messages, each by its own encoding.

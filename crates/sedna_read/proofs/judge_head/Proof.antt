@@ -1,0 +1,64 @@
+use borrow.Author.Tests.{lt-ltb, le-ltb}
+use native.Mathlib.Omega.{arith}
+use Rattle.sedna_read.specs.Reading.{heading}
+use borrow.Author.Needs.{needs}
+use Rattle.sedna_read.proofs.judge_head.Statement.{statement}
+use Rattle.sedna_read.proofs.judge_head.Tie as tie
+
+returns : tie.Need-returns
+unfolding heading
+returns c = (simp (lt-ltb _ _ (c .if1 .taken)), tt)
+
+get-int-requires : tie.Need-get-int-requires
+get-int-requires c κs = search needs
+
+find-requires : tie.Need-find-requires
+find-requires c κs = search needs
+
+enum-told : tie.Need-enum-told
+enum-told c = search needs
+
+enum-known-e : tie.Need-enum-known-e
+enum-known-e c = search needs
+
+same-side-requires : tie.Need-same-side-requires
+same-side-requires c κs = search needs
+
+get-int-requires-2 : tie.Need-get-int-requires-2
+get-int-requires-2 c κs = search needs
+
+cast-n : tie.Need-cast-n
+cast-n c = search needs
+
+returns-2 : tie.Need-returns-2
+unfolding heading
+returns-2 c = (simp (le-ltb _ _ (c .before .before .before .before .before .before .before .before .before .if1 .left), ← c .before .before .before .before .before .before .before .before .get-int .ensures .0, ← c .before .before .before .before .before .before .before .find .ensures, c .before .before .before .before .before .e .given .1, ← c .before .before .before .same-side .ensures, c .before .before .if2 .taken, ← c .before .get-int2 .ensures .0, lt-ltb _ _ (c .if3 .taken)), tt)
+
+returns-3 : tie.Need-returns-3
+unfolding heading
+returns-3 c = (simp (le-ltb _ _ (c .before .before .before .before .if1 .left), ← c .before .before .before .get-int .ensures .0, ← c .before .before .find .ensures, c .enum-told .given .1), tt)
+
+returns-4 : tie.Need-returns-4
+unfolding heading
+returns-4 c = (simp (le-ltb _ _ (c .before .before .before .before .before .before .before .before .before .if1 .left), ← c .before .before .before .before .before .before .before .before .get-int .ensures .0, ← c .before .before .before .before .before .before .before .find .ensures, c .before .before .before .before .before .e .given .1, ← c .before .before .before .same-side .ensures, c .before .before .if2 .taken, ← c .before .get-int2 .ensures .0, le-ltb _ _ (c .if3 .left)), search needs)
+
+returns-5 : tie.Need-returns-5
+unfolding heading
+returns-5 c = (simp (le-ltb _ _ (c .before .before .before .before .before .before .before .if1 .left), ← c .before .before .before .before .before .before .get-int .ensures .0, ← c .before .before .before .before .before .find .ensures, c .before .before .before .e .given .1, ← c .before .same-side .ensures, c .if2 .left), tt)
+
+pub judge-head-spec : {M : Type 1} → statement M
+judge-head-spec =
+    tie.close
+    (tie.spec
+    returns
+    get-int-requires
+    find-requires
+    enum-told
+    enum-known-e
+    same-side-requires
+    get-int-requires-2
+    cast-n
+    returns-2
+    returns-3
+    returns-4
+    returns-5)

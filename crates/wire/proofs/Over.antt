@@ -1,0 +1,87 @@
+-- Laws of `over` and `placed`: what a write, and a run of writes, leaves.
+use mathlib.Core.Path.{_≡_, refl, sym, ap, _∙_}
+use mathlib.Core.List.{List, [], _∷_, _++_, append-assoc}
+use Prim.Native.Nat.{ℕ, suc, _+_, _≤_, _<_}
+use native.Mathlib.Omega.{arith}
+use lib.ListN.{length, take, drop, set, length-append, take-append-drop}
+use lib.Seq.{sets, sets-eq, length-sets, length-take-le, take-at, drop-at, drop-drop}
+use borrow.Author.Tests.{lt-ltb, le-ltb}
+use Rattle.wire.specs.Bytes.{over, placed}
+
+pub over-sets : (d : List ℕ) (at : ℕ) (s : List ℕ) → at + length s ≤ length d → sets d at s ≡ over d at s
+unfolding over
+over-sets d at s h = sets-eq s d at h
+
+pub length-over : (d : List ℕ) (at : ℕ) (s : List ℕ) → at + length s ≤ length d → length (over d at s) ≡ length d
+length-over d at s h = ap length (sym (over-sets d at s h)) ∙ length-sets d at s
+
+-- a write, and one right after it, are one write of both
+pub over-over : (d : List ℕ) (at : ℕ) (a b : List ℕ) → at + length a + length b ≤ length d → over (over d at a) (at + length a) b ≡ over d at (a ++ b)
+unfolding over
+over-over d at a b h =
+    let n : ℕ = at + length a in
+    let p : List ℕ = take at d ++ a in
+    let e : length p ≡ n = length-append (take at d) a ∙ ap (λ (k : ℕ). k + length a) (length-take-le at d (omega arith)) in
+    let m : at + length a + length b ≡ at + length (a ++ b) = omega (arith, length-append a b) in
+    ap (λ (l : List ℕ). l ++ b ++ drop (n + length b) (p ++ drop n d)) (take-at p (drop n d) n e)
+    ∙ ap (λ (l : List ℕ). p ++ b ++ l) (sym (drop-drop (length b) n (p ++ drop n d)) ∙ ap (drop (length b)) (drop-at p (drop n d) n e) ∙ drop-drop (length b) n d)
+    ∙ ap (λ (l : List ℕ). l ++ drop (n + length b) d) (append-assoc (take at d) a b)
+    ∙ ap (λ (k : ℕ). take at d ++ (a ++ b) ++ drop k d) m
+
+-- four stores
+pub four : (d : List ℕ) (at a b c e : ℕ) → at + 4 ≤ length d → set (set (set (set d at a) (at + 1) b) (at + 2) c) (at + 3) e ≡ over d at (a ∷ b ∷ c ∷ e ∷ [])
+four d at a b c e h =
+    let p : at + 1 ≡ suc at = omega arith in
+    let q : at + 2 ≡ suc (suc at) = omega arith in
+    let r : at + 3 ≡ suc (suc (suc at)) = omega arith in
+    rw (p, q, r) (over-sets d at (a ∷ b ∷ c ∷ e ∷ []) h)
+
+append-none : (l : List ℕ) → l ++ [] ≡ l
+append-none [] = refl
+append-none (x ∷ l) = ap (λ (m : List ℕ). x ∷ m) (append-none l)
+
+-- a write of nothing
+pub over-none : (d : List ℕ) (at : ℕ) → over d at [] ≡ d
+unfolding over
+over-none d at =
+    let e : at + 0 ≡ at = omega arith in
+    rw (e, append-none (take at d)) (take-append-drop at d)
+
+pub placed-fits : (d : List ℕ) (at : ℕ) (s : List ℕ) → at + length s ≤ length d → placed d at s ≡ over d at s
+unfolding placed
+placed-fits d at s h = simp (le-ltb _ _ h)
+
+pub placed-not : (d : List ℕ) (at : ℕ) (s : List ℕ) → length d < at + length s → placed d at s ≡ d
+unfolding placed
+placed-not d at s h = simp (lt-ltb _ _ h)
+
+pub length-placed : (d : List ℕ) (at : ℕ) (s : List ℕ) → at + length s ≤ length d → length (placed d at s) ≡ length d
+length-placed d at s h = ap length (placed-fits d at s h) ∙ length-over d at s h
+
+-- `rest`, written from `at`, makes t of what the output holds now
+pub record Ahead (t d : List ℕ) (at : ℕ) (rest : List ℕ) : Type 0 where
+  pub makes : over d at rest ≡ t
+  pub fits : at + length rest ≤ length d
+
+pub start : (d : List ℕ) (at : ℕ) (rest : List ℕ) → at + length rest ≤ length d → Ahead (over d at rest) d at rest
+start d at rest h = record { makes = refl; fits = h }
+
+-- the first of what is ahead was written, up to k
+pub step : {t d : List ℕ} {at : ℕ} (x : List ℕ) {rest e : List ℕ} (k : ℕ) → Ahead t d at (x ++ rest) → e ≡ placed d at x → k ≡ at + length x → Ahead t e k rest
+step {t} {d} {at} x {rest} {e} k a p q =
+    let l : length (x ++ rest) ≡ length x + length rest = length-append x rest in
+    let f : at + length (x ++ rest) ≤ length d = a .fits in
+    let o : e ≡ over d at x = p ∙ placed-fits d at x (omega arith) in
+    let n : length e ≡ length d = ap length o ∙ length-over d at x (omega arith) in
+    record {
+      makes = ap (λ (m : List ℕ). over m k rest) o ∙ ap (λ (m : ℕ). over (over d at x) m rest) q ∙ over-over d at x rest (omega arith) ∙ a .makes;
+      fits = omega arith;
+    }
+
+-- all of what is ahead was written
+pub last : {t d : List ℕ} {at : ℕ} {x e : List ℕ} → Ahead t d at x → e ≡ placed d at x → e ≡ t
+last {t} {d} {at} {x} a p = p ∙ placed-fits d at x (a .fits) ∙ a .makes
+
+-- two writes, one right behind the other
+pub both : (d : List ℕ) (at : ℕ) {a b : List ℕ} (x y : List ℕ) (k : ℕ) → at + length (x ++ y) ≤ length d → a ≡ placed d at x → b ≡ placed a k y → k ≡ at + length x → b ≡ placed d at (x ++ y)
+both d at x y k h p q e = last (step x k (start d at (x ++ y) h) p e) q ∙ sym (placed-fits d at (x ++ y) h)
