@@ -13,9 +13,13 @@ use Rattle.sedna_read.specs.Reading.{Answer, reading}
 use Rattle.sedna_exact.proofs.Accepted.{accepted-published}
 pub use Rattle.sedna_exact.proofs.Accepted.{read-encoded}
 
+-- s is m's encoding, with what stands behind it
+pub front-split : {s : List ℕ} {m : Message} {n : ℕ} → Front s m n → s ≡ encode m ++ drop n s
+front-split {s} {n} f = sym (take-append-drop n s) ∙ ap (λ (l : List ℕ). l ++ drop n s) (f .bytes)
+
 published-accepted : (side : Side) (s : List ℕ) → IsBytes s → (m : Message) (n : ℕ) → Published side m → Front s m n → reading side s ≡ Answer.accepted m n
 published-accepted side s h m n p f =
-    let split : s ≡ encode m ++ drop n s = sym (take-append-drop n s) ∙ ap (λ (l : List ℕ). l ++ drop n s) (f .bytes) in
+    let split : s ≡ encode m ++ drop n s = front-split f in
     ap (reading side) split ∙ read-encoded side m (drop n s) (rw split at h) p ∙ ap (Answer.accepted m) (sym (f .count))
 
 -- demand 2, reading: m with n bytes is accepted exactly when the side sends it and the first n bytes are its encoding

@@ -5,7 +5,12 @@ pub mod Bytes
 pub mod Exact
 pub mod Fields
 pub mod Heads
+pub mod Meaning
+pub mod Options
 pub mod Pairs
+pub mod Parts
+pub mod Refusals
 pub mod Steps
 pub mod Table
 pub mod Urls
+pub mod Written

@@ -13,7 +13,7 @@ use Rattle.sedna_exact.proofs.Bytes.{bytes-behind}
 use Rattle.sedna_exact.proofs.Steps.{Forth, Back, past, given}
 use Rattle.sedna_exact.proofs.Fields.{int-forth, int-back, string-forth, string-back}
 
-pair-forth : Forth pairField pairBytes
+pub pair-forth : Forth pairField pairBytes
 unfolding pairField pairBytes
 pair-forth p rest h =
     let h′ : IsBytes (int (p .id) ++ (string (p .value) ++ rest)) = rw append-assoc at h in

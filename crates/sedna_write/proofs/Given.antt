@@ -132,12 +132,6 @@ ahead-end {t} {d} {at} ids lengths values k h a =
     let e : pairsBytes (pairsOf (drop k ids) (drop k lengths) values) ≡ [] = ap pairsBytes (pairs-end ids lengths values k h) in
     sym (over-none d at) ∙ ap (over d at) (sym e) ∙ a .makes
 
-pub value-length : (values : List ℕ) (from n : ℕ) → from + n ≤ length values → length (take (from + n - from) (drop from values)) ≡ n
-value-length values from n h =
-    let e : from + n - from ≡ n = omega arith in
-    let d : length (drop from values) ≡ length values - from = length-drop from values in
-    rw e (length-take-le n (drop from values) (omega arith))
-
 -- the writer's bound on the body's length serves as the length
 module _ (ids lengths values : List ℕ) (a b : ℕ) (ha : a ≡ min 10241 (length ids + 0)) (hb : b ≡ min 10241 (length values + 0)) where
   pub options-counted : given ids lengths values ≡ true → a * 9 + b ≤ 10240 → length (pairsBytes (pairsOf ids lengths values)) ≡ a * 9 + b

@@ -4,7 +4,7 @@ use mathlib.Core.List.{List, []}
 use Prim.Native.Nat.{ℕ, _+_, _-_, _≤_, _<_}
 use native.Mathlib.Omega.{arith}
 use lib.ListN.{length, take, drop, length-drop, drop-of-length-le}
-use lib.Seq.{take-all, take-nil}
+use lib.Seq.{take-all, take-nil, length-take-le}
 
 -- a part that starts past the end is empty
 pub part-past : (s : List ℕ) (start len : ℕ) → length s < start → take (length s - length s) (drop (length s) s) ≡ take len (drop start s)
@@ -25,3 +25,10 @@ pub part-whole : (s : List ℕ) (start len : ℕ) → take (start + len - start)
 part-whole s start len =
     let e : start + len - start ≡ len = omega arith in
     rw e
+
+-- a part that lies in s has its length
+pub part-length : (s : List ℕ) (from n : ℕ) → from + n ≤ length s → length (take (from + n - from) (drop from s)) ≡ n
+part-length s from n h =
+    let e : from + n - from ≡ n = omega arith in
+    let d : length (drop from s) ≡ length s - from = length-drop from s in
+    rw e (length-take-le n (drop from s) (omega arith))

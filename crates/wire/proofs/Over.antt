@@ -1,10 +1,10 @@
 -- Laws of `over` and `placed`: what a write, and a run of writes, leaves.
 use mathlib.Core.Path.{_≡_, refl, sym, ap, _∙_}
 use mathlib.Core.List.{List, [], _∷_, _++_, append-assoc}
-use Prim.Native.Nat.{ℕ, suc, _+_, _≤_, _<_}
+use Prim.Native.Nat.{ℕ, suc, _+_, _-_, _≤_, _<_}
 use native.Mathlib.Omega.{arith}
-use lib.ListN.{length, take, drop, set, length-append, take-append-drop}
-use lib.Seq.{sets, sets-eq, length-sets, length-take-le, take-at, drop-at, drop-drop}
+use lib.ListN.{length, take, drop, set, length-append, length-drop, take-append-drop}
+use lib.Seq.{sets, sets-eq, length-sets, length-take-le, take-at, take-add, take-append-seam, drop-at, drop-drop}
 use borrow.Author.Tests.{lt-ltb, le-ltb}
 use Rattle.wire.specs.Bytes.{over, placed}
 
@@ -85,3 +85,21 @@ last {t} {d} {at} {x} a p = p ∙ placed-fits d at x (a .fits) ∙ a .makes
 -- two writes, one right behind the other
 pub both : (d : List ℕ) (at : ℕ) {a b : List ℕ} (x y : List ℕ) (k : ℕ) → at + length (x ++ y) ≤ length d → a ≡ placed d at x → b ≡ placed a k y → k ≡ at + length x → b ≡ placed d at (x ++ y)
 both d at x y k h p q e = last (step x k (start d at (x ++ y) h) p e) q ∙ sym (placed-fits d at (x ++ y) h)
+
+-- what was written over the front is there
+pub over-back : (d s : List ℕ) → take (length s - 0) (drop 0 (over d 0 s)) ≡ s
+unfolding over
+over-back d s =
+    let e : length s - 0 ≡ length s = omega arith in
+    rw e (take-append-seam s (drop (0 + length s) d))
+
+-- the first `from` elements of s were written, and then the next up to `to`
+pub over-next : (d : List ℕ) (at : ℕ) (s : List ℕ) (from to : ℕ) → from ≤ to → to ≤ length s → at + length s ≤ length d
+    → over (over d at (take from s)) (at + from) (take (to - from) (drop from s)) ≡ over d at (take to s)
+over-next d at s from to h k f =
+    let a : length (take from s) ≡ from = length-take-le from s (omega arith) in
+    let b : length (drop from s) ≡ length s - from = length-drop from s in
+    let c : length (take (to - from) (drop from s)) ≡ to - from = length-take-le (to - from) (drop from s) (omega arith) in
+    let e : from + (to - from) ≡ to = omega arith in
+    let m : at + from ≡ at + length (take from s) = omega arith in
+    rw m (over-over d at (take from s) (take (to - from) (drop from s)) (omega arith)) ∙ ap (over d at) (sym (take-add from (to - from) s) ∙ ap (λ (n : ℕ). take n s) e)

@@ -4,7 +4,7 @@
 // does not fit writes nothing.
 ghost use mathlib.Core.Path.{_≡_};
 ghost use mathlib.Core.List.{[], _∷_};
-ghost use Prim.Native.Nat.{_+_, _≤_, _<_, _^_};
+ghost use Prim.Native.Nat.{_+_, _≤_, _<_, _^_, min};
 ghost use lib.ListN.{length, take, drop};
 ghost use Rattle.wire.specs.Bytes.{int, intAt, over, placed};
 ghost use Rattle.wire.specs.Refusals.{numberOf};
@@ -123,7 +123,7 @@ pub fn put_int(out: &mut [u8], at: usize, n: u32)
     }
 }
 
-fn store_bytes(out: &mut [u8], at: usize, src: &[u8])
+fn store_each(out: &mut [u8], at: usize, src: &[u8])
     requires { ⌜ at + length (now src) ≤ length (now out) ⌝ }
     ensures { λ _. ⌜ now (out .exit) ≡ over (now (out .entry)) at (now (src .entry)) ⌝ }
 {
@@ -131,6 +131,37 @@ fn store_bytes(out: &mut [u8], at: usize, src: &[u8])
     while j < src.len() {
         out[at + j] = src[j];
         j += 1;
+    }
+}
+
+// By way of an array of its own, which overlaps neither slice: the compiler makes one block move of
+// the two loops and drops the array.
+fn store_block(out: &mut [u8], at: usize, src: &[u8])
+    requires { ⌜ (at + length (now src) ≤ length (now out)) × (length (now src) ≤ 10240) ⌝ }
+    ensures { λ _. ⌜ now (out .exit) ≡ over (now (out .entry)) at (now (src .entry)) ⌝ }
+{
+    let mut block = [0u8; 10240];
+    let n = src.len();
+    store_each(&mut block, 0, src);
+    store_each(out, at, &block[0..n]);
+}
+
+fn least(a: usize, b: usize) -> usize
+    ensures { λ r. ⌜ r ≡ min a b ⌝ }
+{
+    if a < b { a } else { b }
+}
+
+// Block by block.
+fn store_bytes(out: &mut [u8], at: usize, src: &[u8])
+    requires { ⌜ at + length (now src) ≤ length (now out) ⌝ }
+    ensures { λ _. ⌜ now (out .exit) ≡ over (now (out .entry)) at (now (src .entry)) ⌝ }
+{
+    let mut from = 0;
+    while from < src.len() {
+        let to = from + least(src.len() - from, 10240);
+        store_block(out, at + from, &src[from..to]);
+        from = to;
     }
 }
 

@@ -1,4 +1,5 @@
-use Rattle.sedna_write.proofs.Given.{ahead-end, value-length}
+use Rattle.wire.proofs.Ends.{part-length}
+use Rattle.sedna_write.proofs.Given.{ahead-end}
 use mathlib.Core.Path.{_≡_, refl, sym, ap, _∙_}
 use mathlib.Core.List.{List}
 use Prim.Native.Nat.{ℕ, _+_, _-_, _≤_}
@@ -47,7 +48,7 @@ part-put-pair-end : tie.Need-part-put-pair-end Inv-loop μ-loop
 part-put-pair-end c = let s = sum-next (c .before .before .before .before .before .before .before .before .before .args .lengths .now) (c .before .before .before .before .loop .k) (omega arith) in omega arith
 
 put-pair-requires : tie.Need-put-pair-requires Inv-loop μ-loop
-put-pair-requires c κs = let s = sum-next (c .before .before .before .before .before .before .before .before .before .before .args .lengths .now) (c .before .before .before .before .before .loop .k) (omega arith) in let b = next-fits (c .before .before .before .before .before .before .before .before .before .before .args .ids .now) (c .before .before .before .before .before .before .before .before .before .before .args .lengths .now) (c .before .before .before .before .before .before .before .before .before .before .args .values .now) (c .before .before .before .before .before .loop .k) (c .before .before .before .before .before .loop .from) (omega arith) (omega arith) (omega arith) (c .before .before .before .before .before .loop .inv .1 .1 .1) in let v = value-length (c .before .before .before .before .before .before .before .before .before .before .args .values .now) (c .before .before .before .before .before .loop .from) (getD (c .before .before .before .before .before .before .before .before .before .before .args .lengths .now) (c .before .before .before .before .before .loop .k) 0) (omega arith) in (omega arith, omega arith)
+put-pair-requires c κs = let s = sum-next (c .before .before .before .before .before .before .before .before .before .before .args .lengths .now) (c .before .before .before .before .before .loop .k) (omega arith) in let b = next-fits (c .before .before .before .before .before .before .before .before .before .before .args .ids .now) (c .before .before .before .before .before .before .before .before .before .before .args .lengths .now) (c .before .before .before .before .before .before .before .before .before .before .args .values .now) (c .before .before .before .before .before .loop .k) (c .before .before .before .before .before .loop .from) (omega arith) (omega arith) (omega arith) (c .before .before .before .before .before .loop .inv .1 .1 .1) in let v = part-length (c .before .before .before .before .before .before .before .before .before .before .args .values .now) (c .before .before .before .before .before .loop .from) (getD (c .before .before .before .before .before .before .before .before .before .before .args .lengths .now) (c .before .before .before .before .before .loop .k) 0) (omega arith) in (omega arith, omega arith)
 
 add-at : tie.Need-add-at Inv-loop μ-loop
 add-at c = let s = sum-next (c .before .before .before .before .before .before .before .before .before .before .before .before .before .args .lengths .now) (c .before .before .before .before .before .before .before .before .loop .k) (omega arith) in let b = next-fits (c .before .before .before .before .before .before .before .before .before .before .before .before .before .args .ids .now) (c .before .before .before .before .before .before .before .before .before .before .before .before .before .args .lengths .now) (c .before .before .before .before .before .before .before .before .before .before .before .before .before .args .values .now) (c .before .before .before .before .before .before .before .before .loop .k) (c .before .before .before .before .before .before .before .before .loop .from) (omega arith) (omega arith) (omega arith) (c .before .before .before .before .before .before .before .before .loop .inv .1 .1 .1) in omega arith

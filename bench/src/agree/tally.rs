@@ -1,0 +1,66 @@
+//! What has been compared, and whether anything was never met.
+
+use super::Disagreement;
+use bench::inputs::MESSAGES;
+use std::collections::BTreeMap;
+use std::fmt;
+
+/// The refusals that reading and writing can give.
+const READING: [u8; 8] = [1, 2, 3, 4, 5, 6, 7, 8];
+const WRITING: [u8; 4] = [2, 8, 10, 11];
+
+#[derive(Default)]
+pub struct Tally {
+    /// Accepted messages by instruction.
+    accepted: BTreeMap<u32, usize>,
+    /// Refusals by number.
+    read_refused: BTreeMap<u8, usize>,
+    write_refused: BTreeMap<u8, usize>,
+    written: usize,
+}
+
+impl Tally {
+    pub fn read(&mut self, answer: Result<u32, u8>) {
+        match answer {
+            Ok(instruction) => *self.accepted.entry(instruction).or_default() += 1,
+            Err(number) => *self.read_refused.entry(number).or_default() += 1,
+        }
+    }
+
+    pub fn write(&mut self, answer: Result<usize, u8>) {
+        match answer {
+            Ok(_) => self.written += 1,
+            Err(number) => *self.write_refused.entry(number).or_default() += 1,
+        }
+    }
+
+    /// Every message accepted and every refusal met, or the comparison says less
+    /// than it seems to.
+    pub fn complete(&self) -> Result<(), Disagreement> {
+        let messages = MESSAGES.iter().all(|m| self.accepted.contains_key(&m.0));
+        let reading = READING.iter().all(|n| self.read_refused.contains_key(n));
+        let writing = WRITING.iter().all(|n| self.write_refused.contains_key(n));
+        if messages && reading && writing {
+            Ok(())
+        } else {
+            Err(format!("a message or a refusal was never met\n{self}"))
+        }
+    }
+}
+
+impl fmt::Display for Tally {
+    fn fmt(&self, f: &mut fmt::Formatter) -> fmt::Result {
+        let accepted: usize = self.accepted.values().sum();
+        let read_refused: usize = self.read_refused.values().sum();
+        let write_refused: usize = self.write_refused.values().sum();
+        let (read, written) = (accepted + read_refused, self.written + write_refused);
+        writeln!(f, "agree: {read} inputs read, {written} written")?;
+        writeln!(
+            f,
+            "  reading: {accepted} accepted ({} instructions), refused {:?}",
+            self.accepted.len(),
+            self.read_refused
+        )?;
+        write!(f, "  writing: {} accepted, refused {:?}", self.written, self.write_refused)
+    }
+}

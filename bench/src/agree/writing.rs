@@ -1,0 +1,82 @@
+//! The writers: the answer, and every byte of the output and behind it.
+
+use super::{hex, Disagreement, Tally};
+use crate::library;
+use bench::plain::{self, Value};
+
+/// Bytes behind the lent output that nobody may touch.
+const GUARD: usize = 64;
+
+/// An output for each writer.
+#[derive(Default)]
+pub struct Outputs {
+    plain: Vec<u8>,
+    library: Vec<u8>,
+}
+
+impl Outputs {
+    /// What the plain writer made of its output, the bytes behind it included.
+    pub fn plain(&self) -> &[u8] {
+        &self.plain
+    }
+
+    /// One call of both, with `room` bytes of output lent.
+    pub fn compare(
+        &mut self,
+        instruction: u32,
+        value: &Value,
+        room: usize,
+        tally: &mut Tally,
+    ) -> Result<(), Disagreement> {
+        fill(&mut self.plain, room + GUARD);
+        fill(&mut self.library, room + GUARD);
+        let plain = plain::write(&mut self.plain[..room], instruction, value);
+        let library = library::write(&mut self.library[..room], instruction, value);
+        if plain != library || self.plain != self.library {
+            return Err(format!(
+                "writing {instruction} into {room} bytes\n\
+                 plain:   {plain:?} {}\nlibrary: {library:?} {}\nvalue: {}",
+                hex(&self.plain),
+                hex(&self.library),
+                show(value)
+            ));
+        }
+        let written = plain.unwrap_or(0);
+        if let Some(at) = (written..room + GUARD).find(|&at| self.plain[at] != pattern(at)) {
+            return Err(format!(
+                "writing {instruction} into {room} bytes: byte {at} changed\nvalue: {}",
+                show(value)
+            ));
+        }
+        tally.write(plain);
+        Ok(())
+    }
+}
+
+fn pattern(at: usize) -> u8 {
+    (at * 31 + 7) as u8
+}
+
+fn fill(output: &mut Vec<u8>, length: usize) {
+    output.clear();
+    output.extend((0..length).map(pattern));
+}
+
+/// The value, its texts in hex.
+fn show(value: &Value) -> String {
+    match *value {
+        Value::Empty => "Empty".into(),
+        Value::Session { major, minor, user, database } => {
+            format!("Session {major}.{minor} user {} database {}", hex(user), hex(database))
+        }
+        Value::Text(text) => format!("Text {}", hex(text)),
+        Value::Statement { format, text } => format!("Statement {format} {}", hex(text)),
+        Value::Coded { code, text } => format!("Coded {code} {}", hex(text)),
+        Value::Options { ids, lengths, values } => {
+            format!("Options ids {ids:?} lengths {lengths:?} values {}", hex(values))
+        }
+        Value::Item { class, kind, url, part } => {
+            format!("Item {class} {kind} url {:?} part {}", url.map(hex), hex(part))
+        }
+    }
+}

@@ -1,0 +1,131 @@
+//! The library behind its C functions. A slice passes as pointer and length.
+
+use bench::plain::Value;
+
+/// How many numbers a message that was read fills.
+pub const FIELDS: usize = 10;
+
+/// What each of the numbers is; those that a shape does not use are 0.
+pub mod field {
+    pub const INSTRUCTION: usize = 0;
+    pub const SHAPE: usize = 1;
+    pub const A: usize = 2;
+    pub const B: usize = 3;
+    pub const START_1: usize = 4;
+    pub const LENGTH_1: usize = 5;
+    pub const START_2: usize = 6;
+    pub const LENGTH_2: usize = 7;
+    pub const COUNT: usize = 8;
+    pub const HAS_URL: usize = 9;
+}
+
+/// A refusal is told as this with its number on top.
+const REFUSED: u64 = 1 << 32;
+
+#[rustfmt::skip]
+extern "C" {
+    fn kdr_read(
+        side: u8, bytes: *const u8, len: usize, fields: *mut u64, fields_len: usize,
+    ) -> u64;
+    fn kdr_option(
+        bytes: *const u8, len: usize, start: usize, region_len: usize, k: usize,
+        fields: *mut u64, fields_len: usize,
+    ) -> u64;
+    fn kdr_write_empty(out: *mut u8, out_len: usize, instruction: u32) -> u64;
+    fn kdr_write_session(
+        out: *mut u8, out_len: usize, instruction: u32, major: u8, minor: u8,
+        user: *const u8, user_len: usize, database: *const u8, database_len: usize,
+    ) -> u64;
+    fn kdr_write_text(
+        out: *mut u8, out_len: usize, instruction: u32, text: *const u8, text_len: usize,
+    ) -> u64;
+    fn kdr_write_statement(
+        out: *mut u8, out_len: usize, instruction: u32, format: u8,
+        text: *const u8, text_len: usize,
+    ) -> u64;
+    fn kdr_write_coded(
+        out: *mut u8, out_len: usize, instruction: u32, code: u32,
+        text: *const u8, text_len: usize,
+    ) -> u64;
+    fn kdr_write_options(
+        out: *mut u8, out_len: usize, instruction: u32, ids: *const u32, ids_len: usize,
+        lengths: *const usize, lengths_len: usize, values: *const u8, values_len: usize,
+    ) -> u64;
+    fn kdr_write_item(
+        out: *mut u8, out_len: usize, instruction: u32, class: u8, kind: u8,
+        part: *const u8, part_len: usize,
+    ) -> u64;
+    fn kdr_write_item_url(
+        out: *mut u8, out_len: usize, instruction: u32, class: u8, kind: u8,
+        url: *const u8, url_len: usize, part: *const u8, part_len: usize,
+    ) -> u64;
+}
+
+/// The bytes read or written, or the refusal; 0 for one that fits no byte.
+fn answer(code: u64) -> Result<usize, u8> {
+    if code < REFUSED {
+        Ok(code as usize)
+    } else {
+        Err(u8::try_from(code - REFUSED).unwrap_or(0))
+    }
+}
+
+/// Side 1 is the client, 2 the server; an accepted message fills `fields`.
+pub fn read(side: u8, bytes: &[u8], fields: &mut [u64]) -> Result<usize, u8> {
+    // SAFETY: pointers and lengths are those of slices that are borrowed for the call.
+    answer(unsafe {
+        kdr_read(side, bytes.as_ptr(), bytes.len(), fields.as_mut_ptr(), fields.len())
+    })
+}
+
+/// 1 and id, start and length of the k-th pair in `fields`, or 0 for none.
+pub fn option(bytes: &[u8], region: (usize, usize), k: usize, fields: &mut [u64]) -> u64 {
+    // SAFETY: as in `read`.
+    unsafe {
+        kdr_option(
+            bytes.as_ptr(),
+            bytes.len(),
+            region.0,
+            region.1,
+            k,
+            fields.as_mut_ptr(),
+            fields.len(),
+        )
+    }
+}
+
+/// Writes `value` as the body of `instruction`; the answer is the bytes written.
+#[rustfmt::skip]
+pub fn write(out: &mut [u8], instruction: u32, value: &Value) -> Result<usize, u8> {
+    let (room, out) = (out.len(), out.as_mut_ptr());
+    // SAFETY: as in `read`; the output is borrowed apart from all that is read.
+    answer(unsafe {
+        match *value {
+            Value::Empty => kdr_write_empty(out, room, instruction),
+            Value::Session { major, minor, user, database } => kdr_write_session(
+                out, room, instruction, major, minor,
+                user.as_ptr(), user.len(), database.as_ptr(), database.len(),
+            ),
+            Value::Text(text) => {
+                kdr_write_text(out, room, instruction, text.as_ptr(), text.len())
+            }
+            Value::Statement { format, text } => {
+                kdr_write_statement(out, room, instruction, format, text.as_ptr(), text.len())
+            }
+            Value::Coded { code, text } => {
+                kdr_write_coded(out, room, instruction, code, text.as_ptr(), text.len())
+            }
+            Value::Options { ids, lengths, values } => kdr_write_options(
+                out, room, instruction, ids.as_ptr(), ids.len(),
+                lengths.as_ptr(), lengths.len(), values.as_ptr(), values.len(),
+            ),
+            Value::Item { class, kind, url: None, part } => kdr_write_item(
+                out, room, instruction, class, kind, part.as_ptr(), part.len(),
+            ),
+            Value::Item { class, kind, url: Some(url), part } => kdr_write_item_url(
+                out, room, instruction, class, kind,
+                url.as_ptr(), url.len(), part.as_ptr(), part.len(),
+            ),
+        }
+    })
+}

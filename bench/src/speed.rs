@@ -1,0 +1,43 @@
+//! How fast the two are, as ratios that were taken in one run.
+
+mod reading;
+mod rounds;
+mod writing;
+
+use bench::inputs::{full, shuffled, small, Input};
+use rounds::Ratio;
+
+/// Calls in one pass over a set.
+const CALLS: usize = 6_000;
+
+pub fn run() {
+    println!();
+    println!("plain time / library time, median of {} rounds (quartiles);", rounds::ROUNDS);
+    println!("above 1.0 the library is faster. Both built for release, same messages, same");
+    println!("order, alternating; output buffers are not cleared between writes. Called: the");
+    println!("plain code behind the same boundary as the library; inlined: where it is used.");
+    println!();
+    println!("{:<34}{:<22}{:<22}", "", "called", "inlined");
+    println!("{:<34}{:<11}{:<11}{:<11}writing", "messages", "reading", "writing", "reading");
+    row("small, 8 to 64 bytes, all shapes", &small());
+    row("ItemPart, 10,248 bytes", &full(360));
+    row("Execute, 10,248 bytes", &full(300));
+    row("BulkLoadPortion, 10,248 bytes", &full(410));
+    row("SetOptions, 10,248 bytes", &full(530));
+}
+
+fn row(name: &str, set: &[Input]) {
+    let order = shuffled(set.len(), CALLS);
+    let ratios = [
+        reading::called(set, &order),
+        writing::called(set, &order),
+        reading::inlined(set, &order),
+        writing::inlined(set, &order),
+    ];
+    let [a, b, c, d] = ratios.map(|ratio| show(&ratio));
+    println!("{name:<34}{a:<11}{b:<11}{c:<11}{d}");
+}
+
+fn show(ratio: &Ratio) -> String {
+    format!("{:.2}", ratio.median)
+}

@@ -1,0 +1,62 @@
+-- Document 01, "Worked examples (P: proved, as one table)".
+use mathlib.Core.List.{List, [], _∷_, map}
+use Prim.Native.Nat.{ℕ}
+use Rattle.wire.specs.Refusals.{numberOf}
+use Rattle.sedna.specs.declared.Side.{Side}
+use Rattle.sedna.specs.declared.Side.the-variants.{Client, Server}
+use Rattle.sedna.specs.Message.{Body, Message}
+use Rattle.sedna.specs.Names.{StartUp, Execute}
+use Rattle.sedna_read.specs.Reading.{Answer, reading}
+
+-- what an example asks
+pub data Question : Type 0 where
+  sedna : Side → List ℕ → Question
+
+-- what it is answered: a refusal's number, or a message and the bytes read
+pub data Reply : Type 0 where
+  number : ℕ → Reply
+  message : Message → ℕ → Reply
+
+abbrev pub sednaReply : Answer → Reply
+sednaReply (Answer.refused r) = Reply.number (numberOf r)
+sednaReply (Answer.accepted m n) = Reply.message m n
+
+abbrev pub reply : Question → Reply
+reply (Question.sedna side s) = sednaReply (reading side s)
+
+pub record Example : Type 0 where
+  pub asked : Question
+  pub answer : Reply
+
+abbrev read : Side → List ℕ → Reply → Example
+read side s answer = record { asked = Question.sedna side s; answer = answer }
+
+abbrev refuse : Side → List ℕ → ℕ → Example
+refuse side s n = read side s (Reply.number n)
+
+unfoldable pub table : List Example
+table =
+    -- nothing; seven bytes: 1; 1
+    refuse Client [] 1 ∷
+    refuse Client (0 ∷ 0 ∷ 0 ∷ 0x6E ∷ 0 ∷ 0 ∷ 0 ∷ []) 1 ∷
+    -- client 0000006E 00000000: StartUp, 8 read
+    read Client (0 ∷ 0 ∷ 0 ∷ 0x6E ∷ 0 ∷ 0 ∷ 0 ∷ 0 ∷ []) (Reply.message (record { instruction = StartUp; body = Body.empty }) 8) ∷
+    -- the same from the server: 3
+    refuse Server (0 ∷ 0 ∷ 0 ∷ 0x6E ∷ 0 ∷ 0 ∷ 0 ∷ 0 ∷ []) 3 ∷
+    -- client 0000006E 00000001 78: 7
+    refuse Client (0 ∷ 0 ∷ 0 ∷ 0x6E ∷ 0 ∷ 0 ∷ 0 ∷ 1 ∷ 0x78 ∷ []) 7 ∷
+    -- client 00000065 00000000: 2
+    refuse Client (0 ∷ 0 ∷ 0 ∷ 0x65 ∷ 0 ∷ 0 ∷ 0 ∷ 0 ∷ []) 2 ∷
+    -- server 00000168 00002801: 4
+    refuse Server (0 ∷ 0 ∷ 1 ∷ 0x68 ∷ 0 ∷ 0 ∷ 0x28 ∷ 1 ∷ []) 4 ∷
+    -- server 00000168 00002800: 1
+    refuse Server (0 ∷ 0 ∷ 1 ∷ 0x68 ∷ 0 ∷ 0 ∷ 0x28 ∷ 0 ∷ []) 1 ∷
+    -- client 0000012C 00000007 00 00 00000001 31: Execute, XML, text "1"
+    read Client (0 ∷ 0 ∷ 1 ∷ 0x2C ∷ 0 ∷ 0 ∷ 0 ∷ 7 ∷ 0 ∷ 0 ∷ 0 ∷ 0 ∷ 0 ∷ 1 ∷ 0x31 ∷ []) (Reply.message (record { instruction = Execute; body = Body.statement 0 (0x31 ∷ []) }) 15) ∷
+    -- the same, format 02: 8
+    refuse Client (0 ∷ 0 ∷ 1 ∷ 0x2C ∷ 0 ∷ 0 ∷ 0 ∷ 7 ∷ 2 ∷ 0 ∷ 0 ∷ 0 ∷ 0 ∷ 1 ∷ 0x31 ∷ []) 8 ∷
+    -- the same, string format 01: 6
+    refuse Client (0 ∷ 0 ∷ 1 ∷ 0x2C ∷ 0 ∷ 0 ∷ 0 ∷ 7 ∷ 0 ∷ 1 ∷ 0 ∷ 0 ∷ 0 ∷ 1 ∷ 0x31 ∷ []) 6 ∷
+    -- the same, string length 2: 5
+    refuse Client (0 ∷ 0 ∷ 1 ∷ 0x2C ∷ 0 ∷ 0 ∷ 0 ∷ 7 ∷ 0 ∷ 0 ∷ 0 ∷ 0 ∷ 0 ∷ 2 ∷ 0x31 ∷ []) 5 ∷
+    []
