@@ -8,9 +8,7 @@ use bench::plain::{self, Body, Side, Value};
 #[inline(never)]
 pub fn read(side: Side, bytes: &[u8], fields: &mut [u64; FIELDS]) -> Result<usize, u8> {
     let message = plain::read(side, bytes)?;
-    let place = |part: &[u8]| {
-        (part.as_ptr() as u64 - bytes.as_ptr() as u64, part.len() as u64)
-    };
+    let place = |part: &[u8]| (part.as_ptr() as u64 - bytes.as_ptr() as u64, part.len() as u64);
     *fields = [0; FIELDS];
     fields[field::INSTRUCTION] = message.instruction.into();
     let first = match message.body {

@@ -5,14 +5,13 @@ mod rounds;
 mod writing;
 
 use bench::inputs::{full, shuffled, small, Input};
-use rounds::Ratio;
 
 /// Calls in one pass over a set.
 const CALLS: usize = 6_000;
 
 pub fn run() {
     println!();
-    println!("plain time / library time, median of {} rounds (quartiles);", rounds::ROUNDS);
+    println!("plain time / library time, median of {} rounds;", rounds::ROUNDS);
     println!("above 1.0 the library is faster. Both built for release, same messages, same");
     println!("order, alternating; output buffers are not cleared between writes. Called: the");
     println!("plain code behind the same boundary as the library; inlined: where it is used.");
@@ -34,10 +33,6 @@ fn row(name: &str, set: &[Input]) {
         reading::inlined(set, &order),
         writing::inlined(set, &order),
     ];
-    let [a, b, c, d] = ratios.map(|ratio| show(&ratio));
-    println!("{name:<34}{a:<11}{b:<11}{c:<11}{d}");
-}
-
-fn show(ratio: &Ratio) -> String {
-    format!("{:.2}", ratio.median)
+    let [a, b, c, d] = ratios;
+    println!("{name:<34}{a:<11.2}{b:<11.2}{c:<11.2}{d:.2}");
 }

@@ -1,7 +1,7 @@
 //! Reading. Both results are used alike: a match on the shape, then a sum over
 //! instruction, count, numbers, and the places and lengths of all parts.
 
-use super::rounds::{self, sum, Ratio};
+use super::rounds::{self, sum};
 use crate::called;
 use crate::library::{self, field, FIELDS};
 use bench::inputs::Input;
@@ -9,7 +9,7 @@ use bench::plain::{self, Body, Message, Shape};
 use std::hint::black_box;
 
 /// Against the plain reader as it is called, told as the same numbers.
-pub fn called(set: &[Input], order: &[usize]) -> Ratio {
+pub fn called(set: &[Input], order: &[usize]) -> f64 {
     // Lent to every call and not cleared in between.
     let (mut plain, mut fields) = ([0; FIELDS], [0; FIELDS]);
     rounds::ratio(
@@ -19,7 +19,7 @@ pub fn called(set: &[Input], order: &[usize]) -> Ratio {
 }
 
 /// Against the plain reader as it is inlined where its result is used.
-pub fn inlined(set: &[Input], order: &[usize]) -> Ratio {
+pub fn inlined(set: &[Input], order: &[usize]) -> f64 {
     let mut fields = [0; FIELDS];
     rounds::ratio(
         || sum(order, |k| plain(&set[k])),

@@ -8,15 +8,9 @@ pub const ROUNDS: usize = 41;
 /// A timing shorter than this says little.
 const ENOUGH: Duration = Duration::from_millis(3);
 
-/// First time over second time.
-pub struct Ratio {
-    pub low: f64,
-    pub median: f64,
-    pub high: f64,
-}
-
-/// One pass of each answers a sum over its results, the same for both.
-pub fn ratio(mut first: impl FnMut() -> u64, mut second: impl FnMut() -> u64) -> Ratio {
+/// First time over second time, the median of the rounds. One pass of each answers a sum over its
+/// results, the same for both.
+pub fn ratio(mut first: impl FnMut() -> u64, mut second: impl FnMut() -> u64) -> f64 {
     let passes = passes(&mut first);
     time(passes, &mut second);
     let mut ratios = Vec::with_capacity(ROUNDS);
@@ -33,7 +27,7 @@ pub fn ratio(mut first: impl FnMut() -> u64, mut second: impl FnMut() -> u64) ->
         ratios.push(a.0.as_secs_f64() / b.0.as_secs_f64());
     }
     ratios.sort_by(f64::total_cmp);
-    Ratio { low: ratios[ROUNDS / 4], median: ratios[ROUNDS / 2], high: ratios[ROUNDS * 3 / 4] }
+    ratios[ROUNDS / 2]
 }
 
 /// As many passes as take long enough; also the warm-up.

@@ -1,7 +1,7 @@
 //! Writing, into one output that is larger than every message and is not
 //! cleared between writes.
 
-use super::rounds::{self, sum, Ratio};
+use super::rounds::{self, sum};
 use crate::{called, library};
 use bench::inputs::Input;
 use bench::plain::{self, Message, Value, BODY_MAX, HEAD};
@@ -10,12 +10,12 @@ use std::cell::RefCell;
 use std::hint::black_box;
 
 /// Against the plain writers as they are called, one function for each shape.
-pub fn called(set: &[Input], order: &[usize]) -> Ratio {
+pub fn called(set: &[Input], order: &[usize]) -> f64 {
     ratio(called::write, set, order)
 }
 
 /// Against the plain writers as they are inlined.
-pub fn inlined(set: &[Input], order: &[usize]) -> Ratio {
+pub fn inlined(set: &[Input], order: &[usize]) -> f64 {
     ratio(plain::write, set, order)
 }
 
@@ -23,7 +23,7 @@ fn ratio(
     plain: impl Fn(&mut [u8], u32, &Value) -> Result<usize, u8>,
     set: &[Input],
     order: &[usize],
-) -> Ratio {
+) -> f64 {
     let messages: Vec<Message> = set
         .iter()
         .map(|input| bench::plain::read(input.side, &input.bytes).expect("a sound message"))

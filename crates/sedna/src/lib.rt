@@ -2,7 +2,7 @@
 ghost use mathlib.Core.Path.{_≡_};
 ghost use Rattle.sedna.specs.Table.{rows, findOf};
 ghost use Rattle.sedna.specs.Allowed.{versionAllowed, formatAllowed, classAllowed, typeAllowed};
-ghost use Rattle.sedna.specs.Kinds.{sameSide, shapeNumber};
+ghost use Rattle.sedna.specs.Kinds.{sideNumber, shapeNumber};
 
 // Who sends a message.
 pub enum Side {
@@ -118,18 +118,13 @@ pub fn shape_number(shape: Shape) -> u8
     }
 }
 
-pub fn same_side(a: Side, b: Side) -> bool
-    ensures { λ r. ⌜ r ≡ sameSide a b ⌝ }
+// 1 for the client, 2 for the server.
+pub fn side_number(side: Side) -> u8
+    ensures { λ r. ⌜ r ≡ sideNumber side ⌝ }
 {
-    match a {
-        Side::Client => match b {
-            Side::Client => true,
-            Side::Server => false,
-        },
-        Side::Server => match b {
-            Side::Client => false,
-            Side::Server => true,
-        },
+    match side {
+        Side::Client => 1,
+        Side::Server => 2,
     }
 }
 

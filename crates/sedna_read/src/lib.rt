@@ -341,7 +341,7 @@ pub fn judge_head(side: Side, bytes: &[u8]) -> Head
         Found::Missing => Head::Refused(Refusal::UnknownInstruction),
         Found::At(_, e) => {
             let sender = e.1;
-            if sedna::same_side(sender, side) {
+            if sedna::side_number(sender) == sedna::side_number(side) {
                 let n = wire::get_int(bytes, 4) as usize;
                 if 10240 < n {
                     return Head::Refused(Refusal::BodyTooLong);

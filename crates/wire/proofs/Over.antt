@@ -28,14 +28,6 @@ over-over d at a b h =
     ∙ ap (λ (l : List ℕ). l ++ drop (n + length b) d) (append-assoc (take at d) a b)
     ∙ ap (λ (k : ℕ). take at d ++ (a ++ b) ++ drop k d) m
 
--- four stores
-pub four : (d : List ℕ) (at a b c e : ℕ) → at + 4 ≤ length d → set (set (set (set d at a) (at + 1) b) (at + 2) c) (at + 3) e ≡ over d at (a ∷ b ∷ c ∷ e ∷ [])
-four d at a b c e h =
-    let p : at + 1 ≡ suc at = omega arith in
-    let q : at + 2 ≡ suc (suc at) = omega arith in
-    let r : at + 3 ≡ suc (suc (suc at)) = omega arith in
-    rw (p, q, r) (over-sets d at (a ∷ b ∷ c ∷ e ∷ []) h)
-
 append-none : (l : List ℕ) → l ++ [] ≡ l
 append-none [] = refl
 append-none (x ∷ l) = ap (λ (m : List ℕ). x ∷ m) (append-none l)

@@ -101,14 +101,28 @@ pub fn put_byte(out: &mut [u8], at: usize, b: u8)
     }
 }
 
+fn store_each(out: &mut [u8], at: usize, src: &[u8])
+    requires { ⌜ at + length (now src) ≤ length (now out) ⌝ }
+    ensures { λ _. ⌜ now (out .exit) ≡ over (now (out .entry)) at (now (src .entry)) ⌝ }
+{
+    let mut j = 0;
+    while j < src.len() {
+        out[at + j] = src[j];
+        j += 1;
+    }
+}
+
 fn store_int(out: &mut [u8], at: usize, n: u32)
     requires { ⌜ at + 4 ≤ length (now out) ⌝ }
     ensures { λ _. ⌜ now (out .exit) ≡ over (now (out .entry)) at (int n) ⌝ }
 {
-    out[at] = (n / 16777216) as u8;
-    out[at + 1] = (n / 65536 % 256) as u8;
-    out[at + 2] = (n / 256 % 256) as u8;
-    out[at + 3] = (n % 256) as u8;
+    let bytes = [
+        (n / 16777216) as u8,
+        (n / 65536 % 256) as u8,
+        (n / 256 % 256) as u8,
+        (n % 256) as u8,
+    ];
+    store_each(out, at, &bytes);
 }
 
 // The int n at `at`, high byte first, or nothing where it does not fit.
@@ -120,17 +134,6 @@ pub fn put_int(out: &mut [u8], at: usize, n: u32)
         if at <= room - 4 {
             store_int(out, at, n);
         }
-    }
-}
-
-fn store_each(out: &mut [u8], at: usize, src: &[u8])
-    requires { ⌜ at + length (now src) ≤ length (now out) ⌝ }
-    ensures { λ _. ⌜ now (out .exit) ≡ over (now (out .entry)) at (now (src .entry)) ⌝ }
-{
-    let mut j = 0;
-    while j < src.len() {
-        out[at + j] = src[j];
-        j += 1;
     }
 }
 
