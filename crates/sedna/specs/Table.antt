@@ -1,7 +1,7 @@
 -- Document 01, "Instructions and bodies stand in one constant table", and what stands where in it.
 use mathlib.Core.List.{List, [], _∷_, _++_, map}
 use mathlib.Core.Path.{_≡_}
-use Prim.Native.Nat.{ℕ, _+_, _<_}
+use Prim.Native.Nat.{ℕ, _<_}
 use lib.Dec.{eqb}
 use lib.ListN.{length, getD}
 use Rattle.wire.specs.Bytes.{if}
@@ -11,7 +11,7 @@ use Rattle.sedna.specs.declared.Shape.{Shape}
 use Rattle.sedna.specs.declared.Shape.the-variants.{Empty, Session, Text, Statement, Coded, Options, Item}
 use Rattle.sedna.specs.declared.Entry.{Entry}
 use Rattle.sedna.specs.declared.Found.{Found}
-use Rattle.sedna.specs.declared.Found.the-variants.{At, Missing}
+use Rattle.sedna.specs.declared.Found.the-variants.{Known, Unknown}
 use Rattle.sedna.specs.Names.{StartUp, Begin, Commit, Rollback, LongQueryEnd, GetNextItem, BulkLoadEnd, ShowTime, Close, ResetOptions, SessionParameters, AuthenticationParameters, BulkLoadPortion, Execute, ExecuteLong, BulkLoadError, SetOptions, SendSessionParameters, SendAuthParameters, AuthenticationOk, BeginOk, CommitOk, RollbackOk, QuerySucceeded, UpdateSucceeded, ItemEnd, ResultEnd, BulkLoadFromStream, BulkLoadSucceeded, CloseOk, RollbackBeforeClose, SetOptionsOk, ResetOptionsOk, ErrorResponse, AuthenticationFailed, BeginFailed, CommitFailed, RollbackFailed, DebugInfo, QueryFailed, UpdateFailed, BulkLoadFailed, ItemPart, BulkLoadFileName, LastQueryTime, ItemStart}
 
 -- a row of document 01's table: one sender, one body, the instructions
@@ -45,10 +45,10 @@ rows =
 abbrev pub InTable : Entry → Type 0
 InTable e = (i : ℕ) × (i < length rows) × (getD rows i e ≡ e)
 
--- where an instruction stands among es, the first of which is number i
-unfoldable pub search : ℕ → ℕ → List Entry → Found
-search instruction i [] = Missing
-search instruction i (e ∷ es) = if (eqb (e .0) instruction) (At i e) (search instruction (i + 1) es)
+-- the sender and the shape of the first entry with the instruction
+unfoldable pub search : ℕ → List Entry → Found
+search instruction [] = Unknown
+search instruction (e ∷ es) = if (eqb (e .0) instruction) (Known (e .1) (e .2)) (search instruction es)
 
 unfoldable pub findOf : ℕ → Found
-findOf instruction = search instruction 0 rows
+findOf instruction = search instruction rows

@@ -80,14 +80,14 @@ pub fn table() -> [Entry; 46]
     TABLE
 }
 
-// Where an instruction stands in the table.
+// What the table says of an instruction.
 pub enum Found {
-    At(usize, Entry),
-    Missing,
+    Known(Side, Shape),
+    Unknown,
 }
 
-// The entry of an instruction. The table is copied once, ahead of the loop: the compiler then turns
-// the loop into a jump table.
+// Who sends an instruction, and its body's shape. The table is copied once, ahead of the loop: the
+// compiler then turns the loop into a jump table.
 pub fn find(instruction: u32) -> Found
     ensures { λ r. ⌜ r ≡ findOf instruction ⌝ }
 {
@@ -96,11 +96,13 @@ pub fn find(instruction: u32) -> Found
     while i < 46 {
         let e = t[i];
         if e.0 == instruction {
-            return Found::At(i, e);
+            let sender = e.1;
+            let shape = e.2;
+            return Found::Known(sender, shape);
         }
         i += 1;
     }
-    Found::Missing
+    Found::Unknown
 }
 
 // A number for each shape, in the order above.

@@ -7,9 +7,9 @@ use lib.Dec.{ltb}
 use lib.ListN.{length, take, drop, length-append, length-drop, take-append-drop}
 use lib.Seq.{take-append-seam, take-at, length-take-le}
 use borrow.Author.Tests.{le-ltb, ltb-false}
-use Rattle.wire.specs.Bytes.{IsBytes, int}
+use Rattle.wire.specs.Bytes.{IsBytes, int, intAt}
 use Rattle.sedna.specs.declared.Side.{Side}
-use Rattle.sedna.specs.declared.Entry.{Entry}
+use Rattle.sedna.specs.declared.Shape.{Shape}
 use Rattle.sedna.specs.Message.{Body, Message, shapeOf}
 use Rattle.sedna.specs.Encode.{bodyBytes, encode}
 use Rattle.sedna.specs.Published.{Published, Front}
@@ -21,18 +21,20 @@ use Rattle.sedna_exact.proofs.Bodies.{Read, body-forth, body-back}
 use Rattle.sedna_exact.proofs.Heads.{Head, head-forth, head-back, head-bytes}
 
 module _ (side : Side) (m : Message) (rest : List ℕ) (h : IsBytes (encode m ++ rest)) (p : Published side m) where
-  encoded-head : Head side (encode m ++ rest) (m .instruction, side, shapeOf (m .body)) (length (bodyBytes (m .body)))
+  encoded-instruction : intAt (encode m ++ rest) 0 ≡ m .instruction
+  unfolding encode int
+  encoded-instruction =
+      let behind : List ℕ = int (length (bodyBytes (m .body))) ++ (bodyBytes (m .body) ++ rest) in
+      int-written [] (m .instruction) behind (int-small (m .instruction) behind h)
+
+  encoded-head : Head side (encode m ++ rest) (shapeOf (m .body)) (length (bodyBytes (m .body)))
   unfolding encode int
   encoded-head =
-      let i : ℕ = m .instruction in
       let k : ℕ = length (bodyBytes (m .body)) in
-      let behind : List ℕ = bodyBytes (m .body) ++ rest in
       record {
         long = omega arith;
-        listed = p .listed;
-        instruction = sym (int-written [] i (int k ++ behind) (int-small i (int k ++ behind) h));
-        sender = refl;
-        size = sym (int-written (int i) k behind (omega (arith, p .short)));
+        listed = rw encoded-instruction (p .listed);
+        size = sym (int-written (int (m .instruction)) k (bodyBytes (m .body) ++ rest) (omega (arith, p .short)));
         short = p .short;
       }
 
@@ -46,35 +48,35 @@ module _ (side : Side) (m : Message) (rest : List ℕ) (h : IsBytes (encode m ++
       let long : length (body ++ rest) ≡ k + length rest = length-append body rest in
       let count : 8 + k ≡ length (encode m) = omega arith in
       let body-is : IsBytes body = bytes-front body rest (bytes-behind (take 8 s) (body ++ rest) h) in
-      ap (afterHead s) (head-forth side s (m .instruction, side, shapeOf (m .body)) k encoded-head)
-      ∙ rw (le-ltb (length s) (8 + k) (omega arith), take-append-seam body rest, body-forth (m .body) (p .values) body-is, count)
+      ap (afterHead s) (head-forth side s (shapeOf (m .body)) k encoded-head)
+      ∙ rw (le-ltb (length s) (8 + k) (omega arith), encoded-instruction, take-append-seam body rest, body-forth (m .body) (p .values) body-is, count)
 
 -- the message of an instruction and a body
 abbrev message : ℕ → Body → Message
 message i b = record { instruction = i; body = b }
 
 -- a head was taken, and a body after it
-module _ (side : Side) (s : List ℕ) (h : IsBytes s) (e : Entry) (k : ℕ) (head : Head side s e k) (fits : 8 + k ≤ length s) (b : Body) (body : Read (e .2) (take k (drop 8 s)) b []) where
+module _ (side : Side) (s : List ℕ) (h : IsBytes s) (of : Shape) (k : ℕ) (head : Head side s of k) (fits : 8 + k ≤ length s) (b : Body) (body : Read of (take k (drop 8 s)) b []) where
   body-there : take k (drop 8 s) ≡ bodyBytes b
   body-there = body .split ∙ append-nil (bodyBytes b)
 
   body-length : length (bodyBytes b) ≡ k
   body-length = ap length (sym body-there) ∙ length-take-le k (drop 8 s) (omega (arith, length-drop 8 s))
 
-  stands : s ≡ encode (message (e .0) b) ++ drop k (drop 8 s)
+  stands : s ≡ encode (message (intAt s 0) b) ++ drop k (drop 8 s)
   unfolding encode int
   stands =
       let rest : List ℕ = drop k (drop 8 s) in
       head-bytes h head
-      ∙ ap (λ (l : List ℕ). int (e .0) ++ (int k ++ l)) (sym (take-append-drop k (drop 8 s)) ∙ ap (λ (l : List ℕ). l ++ rest) body-there)
-      ∙ ap (λ (n : ℕ). int (e .0) ++ (int n ++ (bodyBytes b ++ rest))) (sym body-length)
+      ∙ ap (λ (l : List ℕ). int (intAt s 0) ++ (int k ++ l)) (sym (take-append-drop k (drop 8 s)) ∙ ap (λ (l : List ℕ). l ++ rest) body-there)
+      ∙ ap (λ (n : ℕ). int (intAt s 0) ++ (int n ++ (bodyBytes b ++ rest))) (sym body-length)
 
-  published : Published side (message (e .0) b) × Front s (message (e .0) b) (8 + k)
+  published : Published side (message (intAt s 0) b) × Front s (message (intAt s 0) b) (8 + k)
   unfolding encode int
   published =
-      let m : Message = message (e .0) b in
+      let m : Message = message (intAt s 0) b in
       let count : 8 + k ≡ length (encode m) = omega (arith, body-length) in (
-        record { listed = rw (← head .sender, body .shape) (head .listed); values = body .values; short = omega (arith, body-length, head .short) },
+        record { listed = rw (body .shape) (head .listed); values = body .values; short = omega (arith, body-length, head .short) },
         record { count = count; bytes = ap (take (8 + k)) stands ∙ take-at (encode m) (drop k (drop 8 s)) (8 + k) (sym count) },
       )
 
@@ -82,17 +84,17 @@ pub accepted-published : (side : Side) (s : List ℕ) → IsBytes s → (m : Mes
 unfolding reading
 accepted-published side s h m n = after-head (heading side s) refl
   where
-    after-body : (e : Entry) (k : ℕ) → Head side s e k → 8 + k ≤ length s
-        → (g : Got Body) → bodyField (e .2) (take k (drop 8 s)) ≡ g → answered (e .0) (8 + k) g ≡ Answer.accepted m n → Published side m × Front s m n
-    after-body e k head fits (Got.refused r) q p = apart (cc)
-    after-body e k head fits (Got.got b rest) q p =
-        let m′ : message (e .0) b ≡ m = cc in
+    after-body : (of : Shape) (k : ℕ) → Head side s of k → 8 + k ≤ length s
+        → (g : Got Body) → bodyField of (take k (drop 8 s)) ≡ g → answered (intAt s 0) (8 + k) g ≡ Answer.accepted m n → Published side m × Front s m n
+    after-body of k head fits (Got.refused r) q p = apart (cc)
+    after-body of k head fits (Got.got b rest) q p =
+        let m′ : message (intAt s 0) b ≡ m = cc in
         let n′ : 8 + k ≡ n = cc in
-        let body = body-back (e .2) (take k (drop 8 s)) b rest (bytes-part s 8 k h) q in
-        subst₂ (λ (m : Message) (n : ℕ). Published side m × Front s m n) m′ n′ (published side s h e k head fits b body)
+        let body = body-back of (take k (drop 8 s)) b rest (bytes-part s 8 k h) q in
+        subst₂ (λ (m : Message) (n : ℕ). Published side m × Front s m n) m′ n′ (published side s h of k head fits b body)
 
     after-head : (g : Heading) → heading side s ≡ g → afterHead s g ≡ Answer.accepted m n → Published side m × Front s m n
     after-head (Heading.refused r) q p = apart (cc)
-    after-head (Heading.headed e k) q p =
+    after-head (Heading.headed of k) q p =
         either (ltb (length s) (8 + k)) _ _ p (λ cut p₁. apart (cc)) λ fits p₁.
-        after-body e k (head-back side s e k q) (ltb-false (length s) (8 + k) fits) (bodyField (e .2) (take k (drop 8 s))) refl p₁
+        after-body of k (head-back side s of k q) (ltb-false (length s) (8 + k) fits) (bodyField of (take k (drop 8 s))) refl p₁

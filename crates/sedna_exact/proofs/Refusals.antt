@@ -124,8 +124,8 @@ unfolding bodyField
 body-refuses of = after (fieldsOf of) _ (fields-refuse of) λ b. after nothingLeft _ left-refuses λ _ s. tt
 
 head-in : (side : Side) (n : ℕ) (f : Found) → HeadIn (headOf side n f)
-head-in side n found.Missing = omega arith
-head-in side n (found.At i e) = of-both HeadIn (sameSide (e .1) side) _ _ (of-both HeadIn (ltb 10240 n) _ _ (omega arith) tt) (omega arith)
+head-in side n found.Unknown = omega arith
+head-in side n (found.Known sender of) = of-both HeadIn (sameSide sender side) _ _ (of-both HeadIn (ltb 10240 n) _ _ (omega arith) tt) (omega arith)
 
 heading-in : (side : Side) (s : List ℕ) → HeadIn (heading side s)
 unfolding heading
@@ -137,9 +137,9 @@ answered-in i n (Got.got b rest) p = tt
 
 after-head-in : (s : List ℕ) (g : Heading) → HeadIn g → AnswerIn (afterHead s g)
 after-head-in s (Heading.refused r) p = p
-after-head-in s (Heading.headed e n) p =
+after-head-in s (Heading.headed of n) p =
     let w : List ℕ = take n (drop 8 s) in
-    of-both AnswerIn (ltb (length s) (8 + n)) _ _ (omega arith) (answered-in (e .0) (8 + n) (bodyField (e .2) w) (body-refuses (e .2) w))
+    of-both AnswerIn (ltb (length s) (8 + n)) _ _ (omega arith) (answered-in (intAt s 0) (8 + n) (bodyField of w) (body-refuses of w))
 
 -- reading refuses only with the numbers 1 to 8
 pub reading-refusals : (side : Side) (s : List ℕ) (r : Refusal) → reading side s ≡ Answer.refused r → (1 ≤ numberOf r) × (numberOf r ≤ 8)

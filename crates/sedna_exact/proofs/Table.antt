@@ -1,64 +1,68 @@
 -- Finding an instruction in the table is exact: no instruction stands there twice.
 use mathlib.Core.Path.{_≡_, refl, sym, ap, _∙_}
 use mathlib.Core.List.{List, [], _∷_, map}
-use Prim.Native.Nat.{ℕ, zero, suc, _+_, _<_}
+use Prim.Native.Nat.{ℕ, zero, suc, _<_}
 use native.Mathlib.Omega.{arith}
 use lib.Dec.{eqb}
-use lib.ListN.{length, getD, List·getD-map}
+use lib.ListN.{length, getD, length-map, List·getD-map}
 use borrow.Author.Tests.{eqb-true}
+use Rattle.sedna.specs.declared.Side.{Side}
+use Rattle.sedna.specs.declared.Shape.{Shape}
 use Rattle.sedna.specs.declared.Entry.{Entry}
 use Rattle.sedna.specs.declared.Found.{Found}
-use Rattle.sedna.specs.declared.Found.the-variants.{At}
+use Rattle.sedna.specs.declared.Found.the-variants.{Known}
 use Rattle.sedna.specs.Table.{rows, InTable, search, findOf}
 use Rattle.sedna_exact.proofs.Branches.{apart, either}
 
--- the entries, each found at its own place, the first at place n
-abbrev placed : ℕ → List Entry → List Found
-placed n [] = []
-placed n (e ∷ es) = At n e ∷ placed (n + 1) es
-
-placed-at : (es : List Entry) (n i : ℕ) (e : Entry) (none : Found) → i < length es → getD (placed n es) i none ≡ At (n + i) (getD es i e)
-placed-at [] n i e none h = absurd (omega arith)
-placed-at (x ∷ es) n zero e none h = let z : n ≡ n + 0 = omega arith in ap (λ (k : ℕ). At k x) z
-placed-at (x ∷ es) n (suc i) e none h =
-    let z : n + 1 + i ≡ n + suc i = omega arith in
-    placed-at es (n + 1) i e none (omega arith) ∙ ap (λ (k : ℕ). At k (getD es i e)) z
-
+-- what the table says of an entry's instruction, and what the entry says
 abbrev finding : Entry → Found
 finding e = findOf (e .0)
 
--- the test of the whole table: each entry is found where it stands
-all-found : map finding rows ≡ placed 0 rows
+abbrev telling : Entry → Found
+telling e = Known (e .1) (e .2)
+
+-- the test of the whole table: each entry is what is found of its instruction
+all-found : map finding rows ≡ map telling rows
 unfolding rows findOf search
 all-found = refl
 
+getD-any : (l : List Found) (i : ℕ) (d e : Found) → i < length l → getD l i d ≡ getD l i e
+getD-any [] i d e h = absurd (omega arith)
+getD-any (x ∷ l) zero d e h = refl
+getD-any (x ∷ l) (suc i) d e h = getD-any l i d e (omega arith)
+
 -- what is listed is found, and what is found is listed
-pub find-listed : (e : Entry) → InTable e → (i : ℕ) × (findOf (e .0) ≡ At i e)
-find-listed e (i, h, there) = (
-  0 + i,
-  ap finding (sym there)
-      ∙ sym (List·getD-map finding rows i e)
-      ∙ ap (λ (l : List Found). getD l i (finding e)) all-found
-      ∙ placed-at rows 0 i e (finding e) h
-      ∙ ap (At (0 + i)) there,
-)
+pub find-listed : (e : Entry) → InTable e → findOf (e .0) ≡ Known (e .1) (e .2)
+find-listed e (i, h, there) =
+    ap finding (sym there)
+    ∙ sym (List·getD-map finding rows i e)
+    ∙ found-at
+    ∙ List·getD-map telling rows i e
+    ∙ ap telling there
+  where
+    found-at : getD (map finding rows) i (finding e) ≡ getD (map telling rows) i (telling e)
+    found-at = ap (λ (l : List Found). getD l i (finding e)) all-found ∙ getD-any (map telling rows) i (finding e) (telling e) (omega (arith, length-map rows telling))
 
 -- no instruction number stands twice in the table
 pub once : (e e′ : Entry) → InTable e → InTable e′ → e .0 ≡ e′ .0 → e ≡ e′
 once e e′ t t′ p =
-    let found = find-listed e t in
-    let found′ = find-listed e′ t′ in
-    let same : At (found .0) e ≡ At (found′ .0) e′ = sym (found .1) ∙ ap findOf p ∙ found′ .1 in
-    cc
+    let same : Known (e .1) (e .2) ≡ Known (e′ .1) (e′ .2) = sym (find-listed e t) ∙ ap findOf p ∙ find-listed e′ t′ in
+    let sides : e .1 ≡ e′ .1 = cc in
+    let shapes : e .2 ≡ e′ .2 = cc in
+    λ i. (p i, sides i, shapes i)
 
-search-finds : (k n i : ℕ) (es : List Entry) (e : Entry) → search k n es ≡ At i e → (j : ℕ) × (j < length es) × (getD es j e ≡ e) × (e .0 ≡ k)
+search-finds : (k : ℕ) (es : List Entry) (a : Side) (b : Shape) → search k es ≡ Known a b → (j : ℕ) × (j < length es) × (getD es j (k, a, b) ≡ (k, a, b))
 unfolding search
-search-finds k n i [] e p = apart (cc)
-search-finds k n i (x ∷ es) e p =
+search-finds k [] a b p = apart (cc)
+search-finds k (x ∷ es) a b p =
     either (eqb (x .0) k) _ _ p
-    (λ hit q. let same : x ≡ e = cc in (0, omega arith, same, ap (λ (y : Entry). y .0) (sym same) ∙ eqb-true (x .0) k hit))
-    (λ miss q. let later = search-finds k (n + 1) i es e q in (suc (later .0), omega arith, later .2, later .3))
+    (λ hit q.
+    let number : x .0 ≡ k = eqb-true (x .0) k hit in
+    let side : x .1 ≡ a = cc in
+    let shape : x .2 ≡ b = cc in
+    (0, omega arith, λ i. (number i, side i, shape i)))
+    (λ miss q. let later = search-finds k es a b q in (suc (later .0), omega arith, later .2))
 
-pub listed-find : (k i : ℕ) (e : Entry) → findOf k ≡ At i e → InTable e × (e .0 ≡ k)
+pub listed-find : (k : ℕ) (a : Side) (b : Shape) → findOf k ≡ Known a b → InTable (k, a, b)
 unfolding findOf
-listed-find k i e p = let found = search-finds k 0 i rows e p in ((found .0, found .1, found .2), found .3)
+listed-find k a b p = search-finds k rows a b p

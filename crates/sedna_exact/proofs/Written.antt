@@ -13,7 +13,7 @@ use Rattle.sedna.specs.declared.Side.{Side}
 use Rattle.sedna.specs.declared.Shape.{Shape}
 use Rattle.sedna.specs.declared.Shape.the-variants.{Empty, Session, Text, Statement, Coded, Options, Item}
 use Rattle.sedna.specs.declared.Found.{Found}
-use Rattle.sedna.specs.declared.Found.the-variants.{At, Missing}
+use Rattle.sedna.specs.declared.Found.the-variants.{Known, Unknown}
 use Rattle.sedna.specs.Allowed.{allowed}
 use Rattle.sedna.specs.Encode.{bodyBytes, encode}
 use Rattle.sedna.specs.Kinds.{shapeNumber, sameShape}
@@ -56,19 +56,18 @@ written-back room m n e = by (findOf (m .instruction)) refl e
     k = length (bodyBytes (m .body))
 
     by : (f : Found) → findOf (m .instruction) ≡ f → judgedAs f (shapeOf (m .body)) (allowed (m .body)) k room ≡ Bytes n → Writable room m n
-    by Missing found e = apart (cc)
-    by (At i x) found e =
-        either (sameShape (x .2) (shapeOf (m .body))) _ _ e
+    by Unknown found e = apart (cc)
+    by (Known sender own) found e =
+        either (sameShape own (shapeOf (m .body))) _ _ e
         (λ same e₁. either (allowed (m .body)) _ _ e₁
         (λ ok e₂. either (ltb 10240 k) _ _ e₂ (λ _ q. apart (cc)) λ short e₃.
         either (ltb room (8 + k)) _ _ e₃ (λ _ q. apart (cc)) λ fits e₄.
-        let there = listed-find (m .instruction) i x found in
-        let shape : x .2 ≡ shapeOf (m .body) = same-shape (x .2) (shapeOf (m .body)) same in
+        let shape : own ≡ shapeOf (m .body) = same-shape own (shapeOf (m .body)) same in
         let count : 8 + k ≡ n = cc in
         let room-fits : 8 + k ≤ room = ltb-false room (8 + k) fits in
         record {
-          side = x .1;
-          published = record { listed = rw (← there .1, ← shape) (there .0); values = ok; short = ltb-false 10240 k short };
+          side = sender;
+          published = record { listed = rw (← shape) (listed-find (m .instruction) sender own found); values = ok; short = ltb-false 10240 k short };
           count = sym count ∙ sym (encode-length m);
           fits = omega arith;
         })
@@ -83,7 +82,7 @@ written-forth room m n w =
     let l : length (encode m) ≡ 8 + k = encode-length m in
     let c : n ≡ 8 + k = w .count ∙ l in
     let f : 8 + k ≤ room = omega (arith, w .fits) in
-    rw (found .1, eq-eqb (shapeNumber (shapeOf (m .body))) _ refl, w .published .values, le-ltb 10240 k (w .published .short), le-ltb room (8 + k) f) (ap Bytes (sym c))
+    rw (found, eq-eqb (shapeNumber (shapeOf (m .body))) _ refl, w .published .values, le-ltb 10240 k (w .published .short), le-ltb room (8 + k) f) (ap Bytes (sym c))
 
 -- demand 2, writing: n bytes are written exactly when a side sends m, its encoding has n bytes and they fit
 pub written-exact : (room : ℕ) (m : Message) (n : ℕ) → (written room m ≡ Bytes n) ↔ Writable room m n

@@ -6,7 +6,6 @@ use native.Mathlib.Omega.{arith}
 use lib.ListN.{length, take, drop}
 use Rattle.wire.specs.declared.Refusal.{Refusal}
 use Rattle.sedna.specs.declared.Shape.{Shape}
-use Rattle.sedna.specs.declared.Entry.{Entry}
 use Rattle.sedna.specs.Message.{Body}
 use Rattle.sedna_read.specs.declared.Head.the-variants as head
 use Rattle.sedna_read.specs.declared.Parsed.{Parsed}
@@ -21,7 +20,7 @@ pub head-refused : (h : Heading) (r : Refusal) → headAt h ≡ head.Refused r �
 head-refused (Heading.refused k) r e = let q : k ≡ r = cc in ap Heading.refused q
 head-refused (Heading.headed f n) r e = let z : _≡_ {A = ℕ} 0 1 = cc in absurd (omega arith)
 
-pub head-body : (h : Heading) (f : Entry) (n : ℕ) → headAt h ≡ head.Body f n → h ≡ Heading.headed f n
+pub head-body : (h : Heading) (f : Shape) (n : ℕ) → headAt h ≡ head.Body f n → h ≡ Heading.headed f n
 head-body (Heading.refused k) f n e = let z : _≡_ {A = ℕ} 0 1 = cc in absurd (omega arith)
 head-body (Heading.headed g m) f n e = cc
 

@@ -95,11 +95,11 @@ urlPart class kind flag w =
 
 abbrev pub headAt : Heading → Head
 headAt (Heading.refused r) = head.Refused r
-headAt (Heading.headed e n) = head.Body e n
+headAt (Heading.headed of n) = head.Body of n
 
 -- a head is judged only where eight bytes are there, and its body's length has a bound
 abbrev pub Bounded : ℕ → Head → Type 0
-Bounded room (head.Body e n) = (8 ≤ room) × (n ≤ 10240)
+Bounded room (head.Body of n) = (8 ≤ room) × (n ≤ 10240)
 Bounded room (head.Refused r) = Unit {0}
 
 -- what the reader answers: the refusal, or the message by its fields' places, behind eight head bytes

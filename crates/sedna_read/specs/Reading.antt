@@ -9,7 +9,6 @@ use Rattle.wire.specs.Bytes.{if, intAt}
 use Rattle.sedna.specs.declared.Side.{Side}
 use Rattle.sedna.specs.declared.Shape.{Shape}
 use Rattle.sedna.specs.declared.Shape.the-variants as shape
-use Rattle.sedna.specs.declared.Entry.{Entry}
 use Rattle.sedna.specs.declared.Found.{Found}
 use Rattle.sedna.specs.declared.Found.the-variants as found
 use Rattle.sedna.specs.Allowed.{versionAllowed, formatAllowed, classAllowed, typeAllowed}
@@ -101,15 +100,15 @@ bodyField s = do
   nothingLeft
   give b
 
--- the eight head bytes judged: a refusal, or the instruction, its body's shape and the body's length
+-- the eight head bytes judged: a refusal, or the body's shape and its length
 pub data Heading : Type 0 where
   refused : Refusal → Heading
-  headed : Entry → ℕ → Heading
+  headed : Shape → ℕ → Heading
 
 abbrev pub headOf : Side → ℕ → Found → Heading
-headOf side n found.Missing = Heading.refused UnknownInstruction
-headOf side n (found.At i e) =
-    if (sameSide (e .1) side) (if (ltb 10240 n) (Heading.refused BodyTooLong) (Heading.headed e n)) (Heading.refused OtherSide)
+headOf side n found.Unknown = Heading.refused UnknownInstruction
+headOf side n (found.Known sender of) =
+    if (sameSide sender side) (if (ltb 10240 n) (Heading.refused BodyTooLong) (Heading.headed of n)) (Heading.refused OtherSide)
 
 -- "fewer than 8 bytes, 1; then 2, 3, 4"
 unfoldable pub heading : Side → List ℕ → Heading
@@ -127,8 +126,8 @@ answered instruction n (Got.got b rest) = Answer.accepted (record { instruction 
 -- "then fewer than 8 plus length, 1; then the fields …"; "Bytes after the message are not touched."
 abbrev pub afterHead : List ℕ → Heading → Answer
 afterHead s (Heading.refused r) = Answer.refused r
-afterHead s (Heading.headed e n) =
-    if (ltb (length s) (8 + n)) (Answer.refused MoreBytes) (answered (e .0) (8 + n) (bodyField (e .2) (take n (drop 8 s))))
+afterHead s (Heading.headed of n) =
+    if (ltb (length s) (8 + n)) (Answer.refused MoreBytes) (answered (intAt s 0) (8 + n) (bodyField of (take n (drop 8 s))))
 
 unfoldable pub reading : Side → List ℕ → Answer
 reading side s = afterHead s (heading side s)

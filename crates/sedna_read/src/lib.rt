@@ -7,7 +7,6 @@ ghost use Rattle.sedna.specs.declared.Shape.the-variants.{Session as session, T
 ghost use Rattle.sedna_read.specs.Fields.{stringField};
 ghost use Rattle.sedna_read.specs.Places.{window, stringPlace, Within, lastField, onString, ended, bodyAt, namesField, urlPart, headAt, Bounded, located, pairPlace, PairWithin, optionAt};
 ghost use Rattle.sedna_read.specs.Reading.{heading, reading, pairField};
-use sedna::Entry;
 use sedna::Found;
 use sedna::Shape;
 use sedna::Side;
@@ -61,9 +60,9 @@ pub enum Parsed {
     Refused(Refusal),
 }
 
-// The eight head bytes judged: the instruction's entry in the table, and the body's length.
+// The eight head bytes judged: the body's shape and its length.
 pub enum Head {
-    Body(Entry, usize),
+    Body(Shape, usize),
     Refused(Refusal),
 }
 
@@ -338,15 +337,14 @@ pub fn judge_head(side: Side, bytes: &[u8]) -> Head
         return Head::Refused(Refusal::MoreBytes);
     }
     match sedna::find(wire::get_int(bytes, 0)) {
-        Found::Missing => Head::Refused(Refusal::UnknownInstruction),
-        Found::At(_, e) => {
-            let sender = e.1;
+        Found::Unknown => Head::Refused(Refusal::UnknownInstruction),
+        Found::Known(sender, shape) => {
             if sedna::side_number(sender) == sedna::side_number(side) {
                 let n = wire::get_int(bytes, 4) as usize;
                 if 10240 < n {
                     return Head::Refused(Refusal::BodyTooLong);
                 }
-                Head::Body(e, n)
+                Head::Body(shape, n)
             } else {
                 Head::Refused(Refusal::OtherSide)
             }
@@ -360,16 +358,16 @@ pub fn read(side: Side, bytes: &[u8]) -> Reading
 {
     match judge_head(side, bytes) {
         Head::Refused(r) => Reading::Refused(r),
-        Head::Body(e, n) => {
+        Head::Body(shape, n) => {
             let end = 8 + n;
             if bytes.len() < end {
                 return Reading::Refused(Refusal::MoreBytes);
             }
-            let shape = e.2;
+            let instruction = wire::get_int(bytes, 0);
             match body_at(shape, bytes, 8, end) {
                 Parsed::Refused(r) => Reading::Refused(r),
                 Parsed::Body(places) => Reading::Message {
-                    instruction: e.0,
+                    instruction,
                     places,
                     count: end,
                 },

@@ -58,8 +58,8 @@ unfolding judgement
 judgement-long i sh ok x y room h k = by (findOf i)
   where
     by : (f : Found) → judgedAs f sh ok x room ≡ judgedAs f sh ok y room
-    by found.Missing = refl
-    by (found.At j e) = rw (lt-ltb 10240 x h, lt-ltb 10240 y k)
+    by found.Unknown = refl
+    by (found.Known j e) = rw (lt-ltb 10240 x h, lt-ltb 10240 y k)
 
 pub judgement-capped : (i : ℕ) (sh : Shape) (ok : Bool) (m c room : ℕ) → judgement i sh ok (min 10241 m + c) room ≡ judgement i sh ok (m + c) room
 judgement-capped i sh ok m c room = by (ltb m 10241) refl
@@ -79,8 +79,8 @@ unfolding judgement
 judgement-false i sh x y room = by (findOf i)
   where
     by : (f : Found) → judgedAs f sh false x room ≡ judgedAs f sh false y room
-    by found.Missing = refl
-    by (found.At j e) = refl
+    by found.Unknown = refl
+    by (found.Known j e) = refl
 
 pub bytes-allowed : (i : ℕ) (sh : Shape) (ok : Bool) (n room k : ℕ) → judgement i sh ok n room ≡ Bytes k → ok ≡ true
 unfolding judgement
@@ -92,8 +92,8 @@ bytes-allowed i sh false n room k e = by (findOf i) e
     same false = refl
 
     by : (f : Found) → judgedAs f sh false n room ≡ Bytes k → false ≡ true
-    by found.Missing e = cc
-    by (found.At j r) e = let q : Refused ValueNotAllowed ≡ Bytes k = sym (same (sameShape (r .2) sh)) ∙ e in cc
+    by found.Unknown e = cc
+    by (found.Known j r) e = let q : Refused ValueNotAllowed ≡ Bytes k = sym (same (sameShape r sh)) ∙ e in cc
 
 -- how many bytes each body has
 pub text-counted : (t : List ℕ) → length (bodyBytes (Body.text t)) ≡ length t + 5

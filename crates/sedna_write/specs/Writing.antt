@@ -24,9 +24,9 @@ inRoom n room = if (ltb room (8 + n)) (Refused NoRoom) (Bytes (8 + n))
 
 -- "An instruction the table lacks" is 2; another body's instruction, or a value that is not allowed, 8; a body above 10,240 bytes 11
 abbrev pub judgedAs : Found → Shape → Bool → ℕ → ℕ → Written
-judgedAs found.Missing shape ok n room = Refused UnknownInstruction
-judgedAs (found.At i e) shape ok n room =
-    if (sameShape (e .2) shape) (if ok (if (ltb 10240 n) (Refused NoEncoding) (inRoom n room)) (Refused ValueNotAllowed)) (Refused ValueNotAllowed)
+judgedAs found.Unknown shape ok n room = Refused UnknownInstruction
+judgedAs (found.Known sender own) shape ok n room =
+    if (sameShape own shape) (if ok (if (ltb 10240 n) (Refused NoEncoding) (inRoom n room)) (Refused ValueNotAllowed)) (Refused ValueNotAllowed)
 
 -- the answer to a body of n bytes of a shape, with allowed values or not, for an output of so many bytes
 unfoldable pub judgement : ℕ → Shape → Bool → ℕ → ℕ → Written

@@ -27,9 +27,8 @@ fn judge(instruction: u32, shape: Shape, allowed: bool, n: usize, room: usize) -
     ensures { λ r. ⌜ (r ≡ judgement instruction shape allowed n room) × Fits n room r ⌝ }
 {
     match sedna::find(instruction) {
-        Found::Missing => Written::Refused(Refusal::UnknownInstruction),
-        Found::At(_, e) => {
-            let own = e.2;
+        Found::Unknown => Written::Refused(Refusal::UnknownInstruction),
+        Found::Known(_, own) => {
             if sedna::shape_number(own) != sedna::shape_number(shape) {
                 return Written::Refused(Refusal::ValueNotAllowed);
             }

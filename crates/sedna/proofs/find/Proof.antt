@@ -1,9 +1,7 @@
-use mathlib.Core.Path.{ap}
-use lib.ListN.{length}
-use mathlib.Core.Path.{_≡_, refl, sym, _∙_}
+use mathlib.Core.Path.{_≡_, ap, refl, sym, _∙_}
 use Prim.Native.Nat.{ℕ, _≤_, _-_}
 use native.Mathlib.Omega.{arith}
-use lib.ListN.{drop}
+use lib.ListN.{length, drop}
 use borrow.Author.Needs.{needs}
 use Rattle.sedna.specs.Table.{rows, findOf, search as scan}
 use Rattle.sedna.proofs.Scan.{hit, miss, past, rows-46}
@@ -11,7 +9,7 @@ use Rattle.sedna.proofs.find.Statement.{statement}
 use Rattle.sedna.proofs.find.Tie as tie
 
 abbrev Inv-loop : tie.InvT-loop
-Inv-loop instruction t i₀ i = (i ≤ 46) × ((t ≡ rows) × (findOf instruction ≡ scan instruction i (drop i t)))
+Inv-loop instruction t i₀ i = (i ≤ 46) × ((t ≡ rows) × (findOf instruction ≡ scan instruction (drop i t)))
 
 abbrev μ-loop : tie.MeasureT-loop
 μ-loop instruction t i₀ i = 46 - i
@@ -21,7 +19,7 @@ table-requires c κs = search needs
 
 loop-holds : tie.Need-loop-holds Inv-loop μ-loop
 unfolding findOf
-loop-holds c = (search needs, (c .table .ensures, ap (scan (c .before .args .instruction) 0) (sym (c .table .ensures))))
+loop-holds c = (search needs, (c .table .ensures, ap (scan (c .before .args .instruction)) (sym (c .table .ensures))))
 
 mul-e : tie.Need-mul-e Inv-loop μ-loop
 mul-e c = omega arith

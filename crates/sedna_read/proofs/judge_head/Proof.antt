@@ -17,8 +17,8 @@ find-requires c κs = search needs
 enum-told : tie.Need-enum-told
 enum-told c = search needs
 
-enum-known-e : tie.Need-enum-known-e
-enum-known-e c = search needs
+enum-known-sender : tie.Need-enum-known-sender
+enum-known-sender c = search needs
 
 side-number-requires : tie.Need-side-number-requires
 side-number-requires c κs = search needs
@@ -34,7 +34,7 @@ cast-n c = search needs
 
 returns-2 : tie.Need-returns-2
 unfolding heading
-returns-2 c = (simp (le-ltb _ _ (c .before .before .before .before .before .before .before .before .before .before .if1 .left), ← c .before .before .before .before .before .before .before .before .before .get-int .ensures .0, ← c .before .before .before .before .before .before .before .before .find .ensures, c .before .before .before .before .before .before .e .given .1, ← c .before .before .before .before .side-number .ensures, ← c .before .before .before .side-number2 .ensures, eq-eqb _ _ (c .before .before .if2 .taken), ← c .before .get-int2 .ensures .0, lt-ltb _ _ (c .if3 .taken)), tt)
+returns-2 c = (simp (le-ltb _ _ (c .before .before .before .before .before .before .before .before .before .before .if1 .left), ← c .before .before .before .before .before .before .before .before .before .get-int .ensures .0, ← c .before .before .before .before .before .before .before .before .find .ensures, c .before .before .before .before .before .before .sender .given .1, ← c .before .before .before .before .side-number .ensures, ← c .before .before .before .side-number2 .ensures, eq-eqb _ _ (c .before .before .if2 .taken), ← c .before .get-int2 .ensures .0, lt-ltb _ _ (c .if3 .taken)), tt)
 
 returns-3 : tie.Need-returns-3
 unfolding heading
@@ -42,11 +42,11 @@ returns-3 c = (simp (le-ltb _ _ (c .before .before .before .before .if1 .left), 
 
 returns-4 : tie.Need-returns-4
 unfolding heading
-returns-4 c = (simp (le-ltb _ _ (c .before .before .before .before .before .before .before .before .before .before .if1 .left), ← c .before .before .before .before .before .before .before .before .before .get-int .ensures .0, ← c .before .before .before .before .before .before .before .before .find .ensures, c .before .before .before .before .before .before .e .given .1, ← c .before .before .before .before .side-number .ensures, ← c .before .before .before .side-number2 .ensures, eq-eqb _ _ (c .before .before .if2 .taken), ← c .before .get-int2 .ensures .0, le-ltb _ _ (c .if3 .left)), search needs)
+returns-4 c = (simp (le-ltb _ _ (c .before .before .before .before .before .before .before .before .before .before .if1 .left), ← c .before .before .before .before .before .before .before .before .before .get-int .ensures .0, ← c .before .before .before .before .before .before .before .before .find .ensures, c .before .before .before .before .before .before .sender .given .1, ← c .before .before .before .before .side-number .ensures, ← c .before .before .before .side-number2 .ensures, eq-eqb _ _ (c .before .before .if2 .taken), ← c .before .get-int2 .ensures .0, le-ltb _ _ (c .if3 .left)), search needs)
 
 returns-5 : tie.Need-returns-5
 unfolding heading
-returns-5 c = (simp (le-ltb _ _ (c .before .before .before .before .before .before .before .before .if1 .left), ← c .before .before .before .before .before .before .before .get-int .ensures .0, ← c .before .before .before .before .before .before .find .ensures, c .before .before .before .before .e .given .1, ← c .before .before .side-number .ensures, ← c .before .side-number2 .ensures, ne-eqb _ _ (c .if2 .left)), tt)
+returns-5 c = (simp (le-ltb _ _ (c .before .before .before .before .before .before .before .before .if1 .left), ← c .before .before .before .before .before .before .before .get-int .ensures .0, ← c .before .before .before .before .before .before .find .ensures, c .before .before .before .before .sender .given .1, ← c .before .before .side-number .ensures, ← c .before .side-number2 .ensures, ne-eqb _ _ (c .if2 .left)), tt)
 
 pub judge-head-spec : {M : Type 1} → statement M
 judge-head-spec =
@@ -56,7 +56,7 @@ judge-head-spec =
     get-int-requires
     find-requires
     enum-told
-    enum-known-e
+    enum-known-sender
     side-number-requires
     side-number-requires-2
     get-int-requires-2

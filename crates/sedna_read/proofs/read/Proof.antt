@@ -15,15 +15,18 @@ judge-head-requires c κs = search needs
 enum-known-r : tie.Need-enum-known-r
 enum-known-r c = search needs
 
-enum-known-e : tie.Need-enum-known-e
-enum-known-e c = search needs
+enum-known-shape : tie.Need-enum-known-shape
+enum-known-shape c = search needs
 
 add-end : tie.Need-add-end
-add-end c = let w = subst (Bounded (length (c .before .before .before .before .before .args .bytes .now))) (c .before .e .given .1) (c .before .before .before .judge-head .ensures .1) in omega arith
+add-end c = let w = subst (Bounded (length (c .before .before .before .before .before .args .bytes .now))) (c .before .shape .given .1) (c .before .before .before .judge-head .ensures .1) in omega arith
 
 returns : tie.Need-returns
 unfolding reading
-returns c = rw (head-body (heading (c .before .before .before .before .before .before .args .side) (c .before .before .before .before .before .before .args .bytes .now)) _ _ (sym (c .before .before .before .before .judge-head .ensures .0) ∙ c .before .before .e .given .1)) (simp (lt-ltb _ _ (c .if1 .taken)))
+returns c = rw (head-body (heading (c .before .before .before .before .before .before .args .side) (c .before .before .before .before .before .before .args .bytes .now)) _ _ (sym (c .before .before .before .before .judge-head .ensures .0) ∙ c .before .before .shape .given .1)) (simp (lt-ltb _ _ (c .if1 .taken)))
+
+get-int-requires : tie.Need-get-int-requires
+get-int-requires c κs = search needs
 
 body-at-requires : tie.Need-body-at-requires
 body-at-requires c κs = search needs
@@ -40,11 +43,11 @@ returns-2 c = rw (head-refused (heading (c .before .before .before .before .befo
 
 returns-3 : tie.Need-returns-3
 unfolding reading
-returns-3 c = rw (head-body (heading (c .before .before .before .before .before .before .before .before .before .before .args .side) (c .before .before .before .before .before .before .before .before .before .before .args .bytes .now)) _ _ (sym (c .before .before .before .before .before .before .before .before .judge-head .ensures .0) ∙ c .before .before .before .before .before .before .e .given .1)) (simp (le-ltb _ _ (c .before .before .before .before .if1 .left), body-read, ← c .before .before .before .body-at .ensures, c .before .r2 .given .1))
+returns-3 c = rw (head-body (heading (c .before .before .before .before .before .before .before .before .before .before .before .args .side) (c .before .before .before .before .before .before .before .before .before .before .before .args .bytes .now)) _ _ (sym (c .before .before .before .before .before .before .before .before .before .judge-head .ensures .0) ∙ c .before .before .before .before .before .before .before .shape .given .1)) (simp (le-ltb _ _ (c .before .before .before .before .before .if1 .left), body-read, ← c .before .before .before .body-at .ensures, c .before .r2 .given .1))
 
 returns-4 : tie.Need-returns-4
 unfolding reading
-returns-4 c = rw (head-body (heading (c .before .before .before .before .before .before .before .before .before .before .args .side) (c .before .before .before .before .before .before .before .before .before .before .args .bytes .now)) _ _ (sym (c .before .before .before .before .before .before .before .before .judge-head .ensures .0) ∙ c .before .before .before .before .before .before .e .given .1)) (simp (le-ltb _ _ (c .before .before .before .before .if1 .left), body-read, ← c .before .before .before .body-at .ensures, c .before .places .given .1))
+returns-4 c = rw (head-body (heading (c .before .before .before .before .before .before .before .before .before .before .before .args .side) (c .before .before .before .before .before .before .before .before .before .before .before .args .bytes .now)) _ _ (sym (c .before .before .before .before .before .before .before .before .before .judge-head .ensures .0) ∙ c .before .before .before .before .before .before .before .shape .given .1)) (simp (le-ltb _ _ (c .before .before .before .before .before .if1 .left), body-read, ← c .before .before .before .body-at .ensures, c .before .places .given .1, c .before .before .before .before .get-int .ensures .0))
 
 pub read-spec : {M : Type 1} → statement M
 read-spec =
@@ -52,9 +55,10 @@ read-spec =
     (tie.spec
     judge-head-requires
     enum-known-r
-    enum-known-e
+    enum-known-shape
     add-end
     returns
+    get-int-requires
     body-at-requires
     enum-known-r-2
     enum-known-places

@@ -11,8 +11,8 @@ find-requires c κs = search needs
 enum-told : tie.Need-enum-told
 enum-told c = search needs
 
-enum-known-e : tie.Need-enum-known-e
-enum-known-e c = search needs
+enum-known-own : tie.Need-enum-known-own
+enum-known-own c = search needs
 
 shape-number-requires : tie.Need-shape-number-requires
 shape-number-requires c κs = search needs
@@ -22,25 +22,25 @@ shape-number-requires-2 c κs = search needs
 
 returns : tie.Need-returns
 unfolding judgement
-returns c = (simp (← c .before .before .before .before .before .before .find .ensures, c .before .before .before .before .e .given .1, ← c .before .before .shape-number .ensures, ← c .before .shape-number2 .ensures, ne-eqb _ _ (c .if1 .taken)), tt)
+returns c = (simp (← c .before .before .before .before .before .before .find .ensures, c .before .before .before .before .own .given .1, ← c .before .before .shape-number .ensures, ← c .before .shape-number2 .ensures, ne-eqb _ _ (c .if1 .taken)), tt)
 
 returns-2 : tie.Need-returns-2
 unfolding judgement
-returns-2 c = (simp (← c .before .before .before .before .before .before .before .before .find .ensures, c .before .before .before .before .before .before .e .given .1, ← c .before .before .before .before .shape-number .ensures, ← c .before .before .before .shape-number2 .ensures, eq-eqb _ _ (c .before .before .if1 .left), c .before .if2 .taken, lt-ltb _ _ (c .if3 .taken)), tt)
+returns-2 c = (simp (← c .before .before .before .before .before .before .before .before .find .ensures, c .before .before .before .before .before .before .own .given .1, ← c .before .before .before .before .shape-number .ensures, ← c .before .before .before .shape-number2 .ensures, eq-eqb _ _ (c .before .before .if1 .left), c .before .if2 .taken, lt-ltb _ _ (c .if3 .taken)), tt)
 
 add-if4 : tie.Need-add-if4
 add-if4 c = search needs
 
 returns-3 : tie.Need-returns-3
 unfolding judgement
-returns-3 c = (simp (← c .before .before .before .before .before .before .before .before .before .find .ensures, c .before .before .before .before .before .before .before .e .given .1, ← c .before .before .before .before .before .shape-number .ensures, ← c .before .before .before .before .shape-number2 .ensures, eq-eqb _ _ (c .before .before .before .if1 .left), c .before .before .if2 .taken, le-ltb _ _ (c .before .if3 .left), lt-ltb _ _ (c .if4 .taken)), tt)
+returns-3 c = (simp (← c .before .before .before .before .before .before .before .before .before .find .ensures, c .before .before .before .before .before .before .before .own .given .1, ← c .before .before .before .before .before .shape-number .ensures, ← c .before .before .before .before .shape-number2 .ensures, eq-eqb _ _ (c .before .before .before .if1 .left), c .before .before .if2 .taken, le-ltb _ _ (c .before .if3 .left), lt-ltb _ _ (c .if4 .taken)), tt)
 
-add-t17 : tie.Need-add-t17
-add-t17 c = search needs
+add-t16 : tie.Need-add-t16
+add-t16 c = search needs
 
 returns-4 : tie.Need-returns-4
 unfolding judgement
-returns-4 c = (simp (← c .before .before .before .before .before .before .before .before .before .find .ensures, c .before .before .before .before .before .before .before .e .given .1, ← c .before .before .before .before .before .shape-number .ensures, ← c .before .before .before .before .shape-number2 .ensures, eq-eqb _ _ (c .before .before .before .if1 .left), c .before .before .if2 .taken, le-ltb _ _ (c .before .if3 .left), le-ltb _ _ (c .if4 .left)), (search needs, search needs, search needs))
+returns-4 c = (simp (← c .before .before .before .before .before .before .before .before .before .find .ensures, c .before .before .before .before .before .before .before .own .given .1, ← c .before .before .before .before .before .shape-number .ensures, ← c .before .before .before .before .shape-number2 .ensures, eq-eqb _ _ (c .before .before .before .if1 .left), c .before .before .if2 .taken, le-ltb _ _ (c .before .if3 .left), le-ltb _ _ (c .if4 .left)), (search needs, search needs, search needs))
 
 returns-5 : tie.Need-returns-5
 unfolding judgement
@@ -48,7 +48,7 @@ returns-5 c = (simp (← c .before .before .find .ensures, c .enum-told .given .
 
 returns-6 : tie.Need-returns-6
 unfolding judgement
-returns-6 c = (simp (← c .before .before .before .before .before .before .before .find .ensures, c .before .before .before .before .before .e .given .1, ← c .before .before .before .shape-number .ensures, ← c .before .before .shape-number2 .ensures, eq-eqb _ _ (c .before .if1 .left), c .if2 .left), tt)
+returns-6 c = (simp (← c .before .before .before .before .before .before .before .find .ensures, c .before .before .before .before .before .own .given .1, ← c .before .before .before .shape-number .ensures, ← c .before .before .shape-number2 .ensures, eq-eqb _ _ (c .before .if1 .left), c .if2 .left), tt)
 
 pub judge-spec : {M : Type 1} → statement M
 judge-spec =
@@ -56,14 +56,14 @@ judge-spec =
     (tie.spec
     find-requires
     enum-told
-    enum-known-e
+    enum-known-own
     shape-number-requires
     shape-number-requires-2
     returns
     returns-2
     add-if4
     returns-3
-    add-t17
+    add-t16
     returns-4
     returns-5
     returns-6)
