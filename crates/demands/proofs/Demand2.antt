@@ -1,5 +1,6 @@
 -- Demand 2 holds, as far as messages go.
 use Rattle.sedna_exact.proofs.Exact.{exact, one-message, one-encoding, behind}
+use Rattle.sedna_exact.proofs.Lists.{options-written, options-given}
 use Rattle.sedna_exact.proofs.Meaning.{meaning-located}
 use Rattle.sedna_exact.proofs.Options.{option-exact}
 use Rattle.sedna_exact.proofs.Table.{once}
@@ -16,6 +17,8 @@ demand-2 =
       places-hold = meaning-located;
       options-hold = option-exact;
       writing-exact = written-exact;
+      options-written = options-written;
+      options-given = options-given;
       read-written = read-written;
       write-read = write-read;
       once = once;

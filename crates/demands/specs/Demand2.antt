@@ -1,4 +1,5 @@
 -- Demand 2: "Reading accepts exactly the messages and strings of the two published protocols under 01's readings, and writing yields the same bytes back; what was written reads as the same message."
+use mathlib.Core.Bool.{true}
 use mathlib.Core.List.{List, _++_}
 use mathlib.Core.Logic.{_↔_}
 use mathlib.Core.Path.{_≡_}
@@ -7,6 +8,8 @@ use lib.ListN.{length, take, drop, getElem?}
 use Rattle.wire.specs.Bytes.{IsBytes}
 use Rattle.sedna.specs.declared.Side.{Side}
 use Rattle.sedna.specs.declared.Entry.{Entry}
+use Rattle.sedna.specs.declared.Shape.the-variants.{Options}
+use Rattle.sedna.specs.Encode.{pairsBytes}
 use Rattle.sedna.specs.Message.{Pair, Body, Message}
 use Rattle.sedna.specs.Published.{Published, Front, Writable}
 use Rattle.sedna.specs.Table.{InTable}
@@ -14,7 +17,8 @@ use Rattle.sedna_read.specs.Meaning.{meaning, optionIn}
 use Rattle.sedna_read.specs.Places.{located, optionAt}
 use Rattle.sedna_read.specs.Reading.{Answer, reading}
 use Rattle.sedna_write.specs.declared.Written.the-variants.{Bytes}
-use Rattle.sedna_write.specs.Writing.{written, left}
+use Rattle.sedna_write.specs.Pairs.{given, pairsOf}
+use Rattle.sedna_write.specs.Writing.{judgement, message, written, left}
 
 -- the bytes of a slice are bytes: `IsBytes s` is no condition on a caller
 pub record Demand2 : Type 0 where
@@ -33,6 +37,11 @@ pub record Demand2 : Type 0 where
       → (k : ℕ) → optionIn s (optionAt k 8 (take (n - 8) (drop 8 s))) ≡ getElem? ps k
   -- n bytes are written exactly when a side sends m, its encoding has n bytes and they fit; by `left` they are the encoding
   pub writing-exact : (room : ℕ) (m : Message) (n : ℕ) → (written room m ≡ Bytes n) ↔ Writable room m n
+  -- options, which the writer takes as three lists: lists that belong together are written as the message with those options ..
+  pub options-written : (room i : ℕ) (ids lengths values : List ℕ) → given ids lengths values ≡ true
+      → judgement i Options (given ids lengths values) (length (pairsBytes (pairsOf ids lengths values))) room ≡ written room (message i (Body.options (pairsOf ids lengths values)))
+  -- .. and every message's options can be given so
+  pub options-given : (ps : List Pair) → (ids : List ℕ) × (lengths : List ℕ) × (values : List ℕ) × (given ids lengths values ≡ true) × (pairsOf ids lengths values ≡ ps)
   -- what was written reads as the same message
   pub read-written : (side : Side) (out : List ℕ) (m : Message) (n : ℕ) → Published side m → written (length out) m ≡ Bytes n → IsBytes (left out m (Bytes n)) → reading side (left out m (Bytes n)) ≡ Answer.accepted m n
   -- writing yields the same bytes back

@@ -5,6 +5,7 @@ pub mod Bytes
 pub mod Exact
 pub mod Fields
 pub mod Heads
+pub mod Lists
 pub mod Meaning
 pub mod Options
 pub mod Pairs

@@ -22,7 +22,7 @@ use Rattle.sedna_write.specs.declared.Written.the-variants.{Bytes, Refus
 abbrev pub inRoom : ℕ → ℕ → Written
 inRoom n room = if (ltb room (8 + n)) (Refused NoRoom) (Bytes (8 + n))
 
--- "An instruction the table lacks" is 2; another body's instruction, or a value that is not allowed, 8; a body above 10,240 bytes 11
+-- 2 for an instruction that the table lacks; 8 for one with another body, and for a value that is not allowed; 11 for a body above 10,240 bytes
 abbrev pub judgedAs : Found → Shape → Bool → ℕ → ℕ → Written
 judgedAs found.Unknown shape ok n room = Refused UnknownInstruction
 judgedAs (found.Known sender own) shape ok n room =
