@@ -1,5 +1,5 @@
 -- Document 01, "Worked examples (P: proved, as one table)".
-use mathlib.Core.List.{List, [], _∷_, map}
+use mathlib.Core.List.{List, [], _∷_}
 use Prim.Native.Nat.{ℕ}
 use Rattle.wire.specs.Refusals.{numberOf}
 use Rattle.sedna.specs.declared.Side.{Side}

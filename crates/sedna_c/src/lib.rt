@@ -7,7 +7,7 @@ ghost use lib.ListN.{length, take, drop};
 ghost use Rattle.sedna.specs.declared.Shape.the-variants.{Options as options};
 ghost use Rattle.sedna.specs.Encode.{pairsBytes};
 ghost use Rattle.sedna.specs.Message.{Url, Body};
-ghost use Rattle.sedna_read.specs.Places.{optionAt, place};
+ghost use Rattle.sedna_read.specs.Places.{optionAt};
 ghost use Rattle.sedna_write.specs.Pairs.{given, pairsOf};
 ghost use Rattle.sedna_write.specs.Writing.{judgement, message, written, left};
 ghost use Rattle.sedna_c.specs.Codes.{refusalCode, writtenCode, fieldList, fieldsOf, sideReading, readCode, fieldsLeft, optionCode, optionLeft};

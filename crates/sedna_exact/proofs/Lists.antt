@@ -1,5 +1,5 @@
 -- Options given to the writer as three lists: they are a message's options, and every message's options can be given so.
-use mathlib.Core.Path.{_≡_, refl, ap, _∙_}
+use mathlib.Core.Path.{_≡_, refl}
 use mathlib.Core.List.{List, [], _∷_, _++_, map}
 use mathlib.Core.Bool.{true}
 use Prim.Native.Nat.{ℕ, _+_}

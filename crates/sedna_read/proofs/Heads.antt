@@ -1,9 +1,9 @@
 -- From a head and a body by place to the whole answer.
-use mathlib.Core.Path.{_≡_, refl, sym, ap, _∙_}
+use mathlib.Core.Path.{_≡_, refl, ap, _∙_}
 use mathlib.Core.List.{List, [], _∷_}
 use Prim.Native.Nat.{ℕ, _+_, _-_}
 use native.Mathlib.Omega.{arith}
-use lib.ListN.{length, take, drop}
+use lib.ListN.{take, drop}
 use Rattle.wire.specs.declared.Refusal.{Refusal}
 use Rattle.sedna.specs.declared.Shape.{Shape}
 use Rattle.sedna.specs.Message.{Body}

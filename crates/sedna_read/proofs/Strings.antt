@@ -1,6 +1,6 @@
 -- A string field read off the part of a slice from `at` up to `end`, by place.
-use mathlib.Core.Path.{_≡_, refl, sym, ap, _∙_}
-use mathlib.Core.List.{List, [], _∷_}
+use mathlib.Core.Path.{_≡_, refl, ap, _∙_}
+use mathlib.Core.List.{List, []}
 use mathlib.Core.Bool.{Bool, true, false}
 use Prim.Native.Nat.{ℕ, _+_, _-_, _≤_, _<_}
 use native.Mathlib.Omega.{arith}
@@ -8,11 +8,11 @@ use lib.Dec.{ltb, eqb}
 use lib.ListN.{length, take, drop, getD, length-drop}
 use lib.Seq.{length-take-le}
 use borrow.Author.Tests.{ltb-true, ltb-false, lt-ltb, le-ltb, eqb-true, eqb-false, eq-eqb, ne-eqb}
-use Rattle.wire.specs.Bytes.{if, intAt}
+use Rattle.wire.specs.Bytes.{intAt}
 use Rattle.wire.specs.declared.Place.{Place}
 use Rattle.wire.specs.declared.Refusal.{Refusal}
 use Rattle.wire.specs.declared.Refusal.the-variants.{FieldCut, StringFormat, BytesLeftOver}
-use Rattle.sedna_read.specs.Fields.{Got, goOn, byteField, intField, bytesField, judged, give, nothingLeft, stringField}
+use Rattle.sedna_read.specs.Fields.{Got, goOn, intField, bytesField, judged, give, nothingLeft, stringField}
 use Rattle.sedna_read.specs.Places.{window, place, stringPlace, lastField}
 use Rattle.sedna_read.specs.declared.StringPlace.the-variants as string
 use Rattle.sedna_read.proofs.Windows.{window-none, window-cons, int-field-window, bytes-window}

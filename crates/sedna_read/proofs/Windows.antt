@@ -4,14 +4,14 @@ use mathlib.Core.List.{List, [], _∷_}
 use mathlib.Core.Bool.{Bool, true, false}
 use Prim.Native.Nat.{ℕ, zero, suc, _+_, _-_, _≤_, _<_, min}
 use native.Mathlib.Omega.{arith}
-use lib.Dec.{ltb, eqb}
+use lib.Dec.{ltb}
 use lib.ListN.{length, take, drop, getD, length-drop}
 use lib.Seq.{drop-cons, drop-drop, take-all, take-nil, take-take, length-take-le, getD-take, getD-drop}
-use borrow.Author.Tests.{ltb-true, ltb-false, lt-ltb, le-ltb, eqb-true, eqb-false}
+use borrow.Author.Tests.{ltb-true, ltb-false}
 use Rattle.wire.specs.Bytes.{if, intAt}
-use Rattle.wire.specs.declared.Refusal.the-variants.{FieldCut, StringFormat}
-use Rattle.wire.proofs.Ints.{intAt-there, join}
-use Rattle.sedna_read.specs.Fields.{Got, goOn, byteField, intField, bytesField, stringField}
+use Rattle.wire.specs.declared.Refusal.the-variants.{FieldCut}
+use Rattle.wire.proofs.Ints.{intAt-there}
+use Rattle.sedna_read.specs.Fields.{Got, byteField, intField, bytesField}
 use Rattle.sedna_read.specs.Places.{window}
 
 drop-take : (k n : ℕ) (l : List ℕ) → drop k (take n l) ≡ take (n - k) (drop k l)

@@ -1,13 +1,13 @@
 -- From a head that was written to the whole message.
 use mathlib.Core.Path.{_≡_, refl, sym, ap, _∙_}
-use mathlib.Core.List.{List, [], _∷_, _++_, append-assoc}
+use mathlib.Core.List.{List, _++_, append-assoc}
 use mathlib.Core.Bool.{Bool, true, false}
-use Prim.Native.Nat.{ℕ, _+_, _*_, _≤_, _<_, min}
+use Prim.Native.Nat.{ℕ, _+_, _≤_, _<_, min}
 use native.Mathlib.Omega.{arith}
 use lib.Dec.{ltb}
-use lib.ListN.{length, take, drop, length-append}
-use borrow.Author.Tests.{ltb-true, ltb-false, lt-ltb, le-ltb}
-use Rattle.wire.specs.Bytes.{if, int, over, placed}
+use lib.ListN.{length, drop, length-append}
+use borrow.Author.Tests.{ltb-true, ltb-false, lt-ltb}
+use Rattle.wire.specs.Bytes.{if, int, over}
 use Rattle.wire.specs.declared.Refusal.the-variants.{ValueNotAllowed}
 use Rattle.wire.proofs.Over.{Ahead, start, step, over-none}
 use Rattle.sedna.specs.declared.Shape.{Shape}

@@ -1,14 +1,13 @@
 // Writes Sedna messages into lent output: all of a message or nothing. One function for each body
 // shape; on a refusal, and behind the bytes written, the output stays as it was.
 ghost use mathlib.Core.Bool.{false};
-ghost use mathlib.Core.List.{_++_};
 ghost use mathlib.Core.Path.{_≡_};
 ghost use Prim.Native.Nat.{_+_, _≤_, min};
 ghost use lib.ListN.{length};
-ghost use Rattle.wire.specs.Bytes.{if, int, placed};
+ghost use Rattle.wire.specs.Bytes.{if, placed};
 ghost use Rattle.sedna.specs.declared.Shape.the-variants.{Options as options};
 ghost use Rattle.sedna.specs.Allowed.{classAllowed, typeAllowed};
-ghost use Rattle.sedna.specs.Encode.{string, pairBytes, pairsBytes, bodyBytes};
+ghost use Rattle.sedna.specs.Encode.{string, pairBytes, pairsBytes};
 ghost use Rattle.sedna.specs.Message.{Url, Body};
 ghost use Rattle.sedna_write.specs.Pairs.{sum, given, pairsOf};
 ghost use Rattle.sedna_write.specs.Writing.{judgement, message, written, left, Fits, headed};

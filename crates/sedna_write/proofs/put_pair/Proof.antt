@@ -1,7 +1,6 @@
-use mathlib.Core.List.{_++_}
 use Prim.Native.Nat.{_+_}
 use native.Mathlib.Omega.{arith}
-use lib.ListN.{length, length-append}
+use lib.ListN.{length-append}
 use Rattle.wire.specs.Bytes.{int}
 use Rattle.wire.proofs.Over.{both}
 use Rattle.sedna.specs.Encode.{string, pairBytes}

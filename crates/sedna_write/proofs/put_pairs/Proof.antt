@@ -1,16 +1,15 @@
 use Rattle.wire.proofs.Ends.{part-length}
 use Rattle.sedna_write.proofs.Given.{ahead-end}
-use mathlib.Core.Path.{_≡_, refl, sym, ap, _∙_}
-use mathlib.Core.List.{List}
-use Prim.Native.Nat.{ℕ, _+_, _-_, _≤_}
+use mathlib.Core.Path.{_≡_, refl, sym, _∙_}
+use Prim.Native.Nat.{_+_, _-_, _≤_}
 use native.Mathlib.Omega.{arith}
-use lib.ListN.{length, drop, take, getD, length-take, length-drop}
+use lib.ListN.{length, drop, getD}
 use borrow.Author.Needs.{needs}
 use Rattle.wire.specs.Bytes.{over}
-use Rattle.wire.proofs.Over.{Ahead, start, over-none, placed-fits}
+use Rattle.wire.proofs.Over.{Ahead, start, placed-fits}
 use Rattle.sedna.specs.Encode.{pairsBytes}
 use Rattle.sedna_write.specs.Pairs.{pairsOf, sum}
-use Rattle.sedna_write.proofs.Given.{sum-next, ahead-next, next-fits, pairs-end}
+use Rattle.sedna_write.proofs.Given.{sum-next, ahead-next, next-fits}
 use Rattle.sedna_write.proofs.put_pairs.Statement.{statement}
 use Rattle.sedna_write.proofs.put_pairs.Tie as tie
 

@@ -1,5 +1,4 @@
-use mathlib.Core.List.{List, [], _∷_, _++_}
-use mathlib.Core.Path.{ap, subst, sym, refl, _∙_}
+use mathlib.Core.Path.{ap, subst, sym, _∙_}
 use Prim.Native.Nat.{_+_}
 use native.Mathlib.Omega.{arith}
 use lib.ListN.{length}
@@ -7,7 +6,7 @@ use Rattle.wire.specs.Bytes.{int}
 use Rattle.wire.proofs.Over.{step, last}
 use Rattle.sedna.specs.Allowed.{allowed}
 use Rattle.sedna.specs.Encode.{string, bodyBytes}
-use Rattle.sedna.specs.Message.{Body, Message}
+use Rattle.sedna.specs.Message.{Body}
 use Rattle.sedna_write.specs.Writing.{Fits, headed, message}
 use Rattle.sedna_write.proofs.Puts.{body-ahead, written-counted, coded-counted}
 use borrow.Author.Needs.{needs}

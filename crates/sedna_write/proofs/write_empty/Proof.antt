@@ -1,11 +1,6 @@
-use mathlib.Core.Path.{_≡_, refl, _∙_}
-use mathlib.Core.List.{List}
-use native.Mathlib.Omega.{arith}
-use lib.ListN.{length}
+use mathlib.Core.Path.{_∙_}
 use Rattle.sedna.specs.Allowed.{allowed}
 use Rattle.sedna.specs.Encode.{bodyBytes}
-use Rattle.sedna.specs.Message.{Body}
-use Rattle.sedna_write.specs.Writing.{message}
 use Rattle.sedna_write.proofs.Puts.{empty-left}
 use borrow.Author.Needs.{needs}
 use Rattle.sedna_write.proofs.write_empty.Statement.{statement}

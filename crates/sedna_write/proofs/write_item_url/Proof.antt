@@ -1,6 +1,6 @@
 use mathlib.Core.Bool.{Bool}
-use mathlib.Core.List.{List, [], _∷_, _++_}
-use mathlib.Core.Path.{_≡_, ap, subst, sym, refl, _∙_}
+use mathlib.Core.List.{[], _∷_}
+use mathlib.Core.Path.{_≡_, ap, subst, sym, _∙_}
 use Prim.Native.Nat.{ℕ, _+_}
 use native.Mathlib.Omega.{arith}
 use lib.ListN.{length}
@@ -9,7 +9,7 @@ use Rattle.wire.proofs.Over.{step, last}
 use Rattle.sedna.specs.declared.Shape.the-variants as shape
 use Rattle.sedna.specs.Allowed.{allowed}
 use Rattle.sedna.specs.Encode.{string, urlBytes, bodyBytes}
-use Rattle.sedna.specs.Message.{Url, Body, Message}
+use Rattle.sedna.specs.Message.{Url, Body}
 use Rattle.sedna_write.specs.Writing.{judgement, Fits, headed, message}
 use Rattle.sedna_write.proofs.Puts.{body-ahead, written-counted, item-url-counted, judgement-capped}
 use borrow.Author.Needs.{needs}

@@ -1,11 +1,11 @@
 use mathlib.Core.Bool.{Bool, true}
 use mathlib.Core.Path.{_≡_, ap, subst, sym, _∙_}
-use Prim.Native.Nat.{ℕ, _+_, _*_}
+use Prim.Native.Nat.{_+_, _*_}
 use native.Mathlib.Omega.{arith}
 use lib.ListN.{length}
 use Rattle.wire.proofs.Over.{last}
 use Rattle.sedna.specs.declared.Shape.the-variants as shape
-use Rattle.sedna.specs.Encode.{bodyBytes, pairsBytes}
+use Rattle.sedna.specs.Encode.{bodyBytes}
 use Rattle.sedna.specs.Message.{Body}
 use Rattle.sedna_write.specs.Pairs.{given, pairsOf}
 use Rattle.sedna_write.specs.Writing.{judgement, Fits, headed, message}

@@ -1,12 +1,12 @@
 use mathlib.Core.Bool.{Bool}
-use mathlib.Core.Path.{_≡_, ap, subst, sym, refl, _∙_}
-use Prim.Native.Nat.{ℕ, _+_}
+use mathlib.Core.Path.{_≡_, ap, subst, sym, _∙_}
+use Prim.Native.Nat.{_+_}
 use Rattle.sedna.specs.declared.Shape.the-variants as shape
-use Rattle.sedna.specs.Encode.{string, urlBytes, bodyBytes}
-use Rattle.sedna.specs.Message.{Url, Body, Message}
+use Rattle.sedna.specs.Encode.{string, bodyBytes}
+use Rattle.sedna.specs.Message.{Body}
 use Rattle.sedna_write.specs.Writing.{judgement, Fits, headed, message}
-use mathlib.Core.List.{List, [], _∷_, _++_}
-use mathlib.Core.Path.{ap, subst, sym, refl, _∙_}
+use mathlib.Core.List.{[], _∷_}
+use mathlib.Core.Path.{ap, subst, sym, _∙_}
 use Prim.Native.Nat.{_+_}
 use native.Mathlib.Omega.{arith}
 use lib.ListN.{length}
@@ -14,7 +14,7 @@ use Rattle.wire.specs.Bytes.{int}
 use Rattle.wire.proofs.Over.{step, last}
 use Rattle.sedna.specs.Allowed.{allowed}
 use Rattle.sedna.specs.Encode.{string, bodyBytes}
-use Rattle.sedna.specs.Message.{Body, Message}
+use Rattle.sedna.specs.Message.{Body}
 use Rattle.sedna_write.specs.Writing.{Fits, headed, message}
 use Rattle.sedna_write.proofs.Puts.{body-ahead, written-counted, statement-counted}
 use borrow.Author.Needs.{needs}
