@@ -1,5 +1,4 @@
-//! The worked examples of document 01, and the readings that bind: a test's
-//! number is the number of the reading.
+//! The worked examples of document 01, and the places of it that are easily got wrong.
 
 mod reading;
 mod writing;

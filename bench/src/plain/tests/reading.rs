@@ -1,14 +1,14 @@
-//! The readings on reading.
+//! Reading: order, edges, and where each refusal is due.
 
 use super::*;
 
 #[test]
-fn r01_seven_bytes_of_an_unknown_instruction() {
+fn seven_bytes_of_an_unknown_instruction() {
     assert_eq!(refused(Client, &hex("00000065 000000")), 1);
 }
 
 #[test]
-fn r02_r03_head_judged_without_the_body() {
+fn r03_head_judged_without_the_body() {
     assert_eq!(refused(Client, &hex("00000065 FFFFFFFF")), 2);
     assert_eq!(refused(Client, &hex("00000168 FFFFFFFF")), 3);
     assert_eq!(refused(Server, &hex("00000168 FFFFFFFF")), 4);
@@ -17,19 +17,19 @@ fn r02_r03_head_judged_without_the_body() {
 }
 
 #[test]
-fn r04_no_early_7() {
+fn no_early_7() {
     assert_eq!(refused(Client, &hex("0000006E 00000001")), 1);
     assert_eq!(refused(Client, &hex("0000006E 00000001 00")), 7);
 }
 
 #[test]
-fn r05_bytes_behind_the_message() {
+fn bytes_behind_the_message() {
     let bytes = hex("0000006E 00000000 FFFF");
     assert_eq!(read(Client, &bytes).unwrap().count, 8);
 }
 
 #[test]
-fn r06_r07_cut_ints_and_strings() {
+fn r07_cut_ints_and_strings() {
     for body in ["", "01", "010203", "01020304", "01020304 00", "01020304 00 000000"] {
         assert_eq!(body_refused(100, body), 5, "{body}");
     }
@@ -40,7 +40,7 @@ fn r06_r07_cut_ints_and_strings() {
 }
 
 #[test]
-fn r08_a_string_ends_inside_the_body() {
+fn a_string_ends_inside_the_body() {
     let mut bytes = message(130, "00 00000009 61");
     bytes.extend(message(110, ""));
     assert_eq!(refused(Client, &bytes), 5);
@@ -48,7 +48,7 @@ fn r08_a_string_ends_inside_the_body() {
 }
 
 #[test]
-fn r09_r10_version() {
+fn r10_version() {
     assert_eq!(body_refused(120, ""), 5);
     assert_eq!(body_refused(120, "09"), 5);
     for body in ["0900", "0101", "0000", "0500", "0001"] {
@@ -62,7 +62,7 @@ fn r09_r10_version() {
 }
 
 #[test]
-fn r11_item_start_byte_by_byte() {
+fn item_start_byte_by_byte() {
     for (body, number) in [
         ("", 5),
         ("09", 8),
@@ -80,7 +80,7 @@ fn r11_item_start_byte_by_byte() {
 }
 
 #[test]
-fn r12_class_and_type_apart() {
+fn class_and_type_apart() {
     for class in 0..=255u8 {
         for kind in 0..=255u8 {
             let body = format!("{class:02X}{kind:02X}00 00 00000000");
@@ -92,7 +92,7 @@ fn r12_class_and_type_apart() {
 }
 
 #[test]
-fn r13_empty_url_is_not_none() {
+fn empty_url_is_not_none() {
     let url = |body| match read(Server, &message(355, body)).unwrap().body {
         Body::Item { url, .. } => url.map(<[u8]>::len),
         _ => unreachable!(),
@@ -102,7 +102,7 @@ fn r13_empty_url_is_not_none() {
 }
 
 #[test]
-fn r14_set_options() {
+fn set_options() {
     assert!(accepted(530, ""));
     assert_eq!(body_refused(530, "00"), 5);
     assert_eq!(body_refused(530, "00000001 00 00000000 000000"), 5);
@@ -117,7 +117,7 @@ fn r14_set_options() {
 }
 
 #[test]
-fn r15_empty_texts() {
+fn empty_texts() {
     assert_eq!(body_refused(300, ""), 5);
     assert!(accepted(300, "01 00 00000000"));
     assert!(accepted(130, "00 00000000"));
@@ -125,7 +125,7 @@ fn r15_empty_texts() {
 }
 
 #[test]
-fn r16_r17_codes() {
+fn r17_codes() {
     for instruction in [100, 400] {
         let bytes = message(instruction, "FFFFFFFF 00 00000000");
         let (side, _) = entry(instruction).unwrap();

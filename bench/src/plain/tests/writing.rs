@@ -1,4 +1,4 @@
-//! The readings on writing, as far as they are not about cutting.
+//! Writing: order, room, and the limit on a body.
 
 use super::super::refusal::{NOT_ALLOWED, NO_ENCODING, NO_ROOM, UNKNOWN};
 use super::*;
@@ -19,7 +19,7 @@ fn refusal(room: usize, instruction: u32, value: Value) -> u8 {
 }
 
 #[test]
-fn r18_order() {
+fn order() {
     let item = |class, part| Value::Item { class, kind: 0, url: None, part };
     assert_eq!(refusal(0, 999, item(0, &TOO_LONG)), UNKNOWN);
     assert_eq!(refusal(0, 355, item(0, &TOO_LONG)), NOT_ALLOWED);
@@ -29,13 +29,13 @@ fn r18_order() {
 }
 
 #[test]
-fn r19_both_sides_are_written() {
+fn both_sides_are_written() {
     assert_eq!(written(8, 110, Value::Empty).0, Ok(8));
     assert_eq!(written(8, 140, Value::Empty).0, Ok(8));
 }
 
 #[test]
-fn r20_exact_fit_and_bytes_behind() {
+fn exact_fit_and_bytes_behind() {
     let mut out = [0xA5; 20];
     let text = Value::Statement { format: 0, text: b"1" };
     assert_eq!(write(&mut out[..14], 300, &text), Err(NO_ROOM));
@@ -46,7 +46,7 @@ fn r20_exact_fit_and_bytes_behind() {
 }
 
 #[test]
-fn r21_url_or_none() {
+fn url_or_none() {
     let item = |url| Value::Item { class: 3, kind: 10, url, part: b"p" };
     assert_eq!(written(99, 355, item(Some(b"u"))).0, Ok(23));
     assert_eq!(written(99, 355, item(Some(b""))).0, Ok(22));
@@ -54,7 +54,7 @@ fn r21_url_or_none() {
 }
 
 #[test]
-fn r28_the_limit_is_on_the_body() {
+fn the_limit_is_on_the_body() {
     let statement = |n| Value::Statement { format: 1, text: &TOO_LONG[..n] };
     assert_eq!(written(20_000, 300, statement(10_234)).0, Ok(10_248));
     assert_eq!(refusal(20_000, 300, statement(10_235)), NO_ENCODING);
