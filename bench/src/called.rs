@@ -1,60 +1,36 @@
 //! The plain implementation behind the boundary that the library has: functions that are called and
 //! not inlined, and a message told as ten numbers. What a caller of a compiled library would get.
 
-use crate::library::{field, FIELDS};
+use crate::library::FIELDS;
 use bench::plain::{self, Body, Side, Value};
 
-/// As `library::read`, for a good side and enough numbers.
+/// As `library::read`, for a good side and enough numbers: one match, each number stored once.
 #[inline(never)]
 pub fn read(side: Side, bytes: &[u8], fields: &mut [u64; FIELDS]) -> Result<usize, u8> {
     let message = plain::read(side, bytes)?;
-    let place = |part: &[u8]| (part.as_ptr() as u64 - bytes.as_ptr() as u64, part.len() as u64);
-    *fields = [0; FIELDS];
-    fields[field::INSTRUCTION] = message.instruction.into();
-    let first = match message.body {
-        Body::Empty => (0, 0),
-        Body::Session { major, minor, user, database } => {
-            (fields[field::A], fields[field::B]) = (major.into(), minor.into());
-            (fields[field::START_2], fields[field::LENGTH_2]) = place(database);
-            place(user)
+    let i = message.instruction.into();
+    let at = |part: &[u8]| part.as_ptr() as u64 - bytes.as_ptr() as u64;
+    let n = |part: &[u8]| part.len() as u64;
+    *fields = match message.body {
+        Body::Empty => [i, 0, 0, 0, 0, 0, 0, 0, 0, 0],
+        Body::Session { major, minor, user: u, database: d } => {
+            [i, 1, major.into(), minor.into(), at(u), n(u), at(d), n(d), 0, 0]
         }
-        Body::Text(text) => place(text),
-        Body::Statement { format, text } => {
-            fields[field::A] = format.into();
-            place(text)
-        }
-        Body::Coded { code, text } => {
-            fields[field::A] = code.into();
-            place(text)
-        }
+        Body::Text(t) => [i, 2, 0, 0, at(t), n(t), 0, 0, 0, 0],
+        Body::Statement { format, text: t } => [i, 3, format.into(), 0, at(t), n(t), 0, 0, 0, 0],
+        Body::Coded { code, text: t } => [i, 4, code.into(), 0, at(t), n(t), 0, 0, 0, 0],
         Body::Options(pairs) => {
-            fields[field::COUNT] = pairs.count() as u64;
-            place(pairs.region())
+            let r = pairs.region();
+            [i, 5, 0, 0, at(r), n(r), 0, 0, pairs.count() as u64, 0]
         }
-        Body::Item { class, kind, url, part } => {
-            (fields[field::A], fields[field::B]) = (class.into(), kind.into());
-            if let Some(url) = url {
-                (fields[field::START_2], fields[field::LENGTH_2]) = place(url);
-                fields[field::HAS_URL] = 1;
-            }
-            place(part)
+        Body::Item { class, kind, url: None, part: p } => {
+            [i, 6, class.into(), kind.into(), at(p), n(p), 0, 0, 0, 0]
+        }
+        Body::Item { class, kind, url: Some(u), part: p } => {
+            [i, 6, class.into(), kind.into(), at(p), n(p), at(u), n(u), 0, 1]
         }
     };
-    fields[field::SHAPE] = shape(&message.body);
-    (fields[field::START_1], fields[field::LENGTH_1]) = first;
     Ok(message.count)
-}
-
-fn shape(body: &Body) -> u64 {
-    match body {
-        Body::Empty => 0,
-        Body::Session { .. } => 1,
-        Body::Text(_) => 2,
-        Body::Statement { .. } => 3,
-        Body::Coded { .. } => 4,
-        Body::Options(_) => 5,
-        Body::Item { .. } => 6,
-    }
 }
 
 /// As `library::write`: a match here, and one call for each shape.
