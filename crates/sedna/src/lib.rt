@@ -4,6 +4,8 @@ ghost use Rattle.sedna.specs.Table.{rows, findOf};
 ghost use Rattle.sedna.specs.Allowed.{versionAllowed, formatAllowed, classAllowed, typeAllowed};
 ghost use Rattle.sedna.specs.Kinds.{sideNumber, shapeNumber};
 
+pub mod names;
+
 // Who sends a message.
 pub enum Side {
     Client,
@@ -26,52 +28,52 @@ pub struct Entry(pub u32, pub Side, pub Shape);
 
 // Document 01's table, in its order.
 pub const TABLE: [Entry; 46] = [
-    Entry(110, Side::Client, Shape::Empty), // StartUp
-    Entry(210, Side::Client, Shape::Empty), // Begin
-    Entry(220, Side::Client, Shape::Empty), // Commit
-    Entry(225, Side::Client, Shape::Empty), // Rollback
-    Entry(302, Side::Client, Shape::Empty), // LongQueryEnd
-    Entry(310, Side::Client, Shape::Empty), // GetNextItem
-    Entry(420, Side::Client, Shape::Empty), // BulkLoadEnd
-    Entry(451, Side::Client, Shape::Empty), // ShowTime
-    Entry(500, Side::Client, Shape::Empty), // Close
-    Entry(550, Side::Client, Shape::Empty), // ResetOptions
-    Entry(120, Side::Client, Shape::Session), // SessionParameters
-    Entry(130, Side::Client, Shape::Text), // AuthenticationParameters
-    Entry(410, Side::Client, Shape::Text), // BulkLoadPortion
-    Entry(300, Side::Client, Shape::Statement), // Execute
-    Entry(301, Side::Client, Shape::Statement), // ExecuteLong
-    Entry(400, Side::Client, Shape::Coded), // BulkLoadError
-    Entry(530, Side::Client, Shape::Options), // SetOptions
-    Entry(140, Side::Server, Shape::Empty), // SendSessionParameters
-    Entry(150, Side::Server, Shape::Empty), // SendAuthParameters
-    Entry(160, Side::Server, Shape::Empty), // AuthenticationOk
-    Entry(230, Side::Server, Shape::Empty), // BeginOk
-    Entry(250, Side::Server, Shape::Empty), // CommitOk
-    Entry(255, Side::Server, Shape::Empty), // RollbackOk
-    Entry(320, Side::Server, Shape::Empty), // QuerySucceeded
-    Entry(340, Side::Server, Shape::Empty), // UpdateSucceeded
-    Entry(370, Side::Server, Shape::Empty), // ItemEnd
-    Entry(375, Side::Server, Shape::Empty), // ResultEnd
-    Entry(431, Side::Server, Shape::Empty), // BulkLoadFromStream
-    Entry(440, Side::Server, Shape::Empty), // BulkLoadSucceeded
-    Entry(510, Side::Server, Shape::Empty), // CloseOk
-    Entry(520, Side::Server, Shape::Empty), // RollbackBeforeClose
-    Entry(540, Side::Server, Shape::Empty), // SetOptionsOk
-    Entry(560, Side::Server, Shape::Empty), // ResetOptionsOk
-    Entry(100, Side::Server, Shape::Coded), // ErrorResponse
-    Entry(170, Side::Server, Shape::Coded), // AuthenticationFailed
-    Entry(240, Side::Server, Shape::Coded), // BeginFailed
-    Entry(260, Side::Server, Shape::Coded), // CommitFailed
-    Entry(265, Side::Server, Shape::Coded), // RollbackFailed
-    Entry(325, Side::Server, Shape::Coded), // DebugInfo
-    Entry(330, Side::Server, Shape::Coded), // QueryFailed
-    Entry(350, Side::Server, Shape::Coded), // UpdateFailed
-    Entry(450, Side::Server, Shape::Coded), // BulkLoadFailed
-    Entry(360, Side::Server, Shape::Text), // ItemPart
-    Entry(430, Side::Server, Shape::Text), // BulkLoadFileName
-    Entry(452, Side::Server, Shape::Text), // LastQueryTime
-    Entry(355, Side::Server, Shape::Item), // ItemStart
+    Entry(names::START_UP, Side::Client, Shape::Empty),
+    Entry(names::BEGIN, Side::Client, Shape::Empty),
+    Entry(names::COMMIT, Side::Client, Shape::Empty),
+    Entry(names::ROLLBACK, Side::Client, Shape::Empty),
+    Entry(names::LONG_QUERY_END, Side::Client, Shape::Empty),
+    Entry(names::GET_NEXT_ITEM, Side::Client, Shape::Empty),
+    Entry(names::BULK_LOAD_END, Side::Client, Shape::Empty),
+    Entry(names::SHOW_TIME, Side::Client, Shape::Empty),
+    Entry(names::CLOSE, Side::Client, Shape::Empty),
+    Entry(names::RESET_OPTIONS, Side::Client, Shape::Empty),
+    Entry(names::SESSION_PARAMETERS, Side::Client, Shape::Session),
+    Entry(names::AUTHENTICATION_PARAMETERS, Side::Client, Shape::Text),
+    Entry(names::BULK_LOAD_PORTION, Side::Client, Shape::Text),
+    Entry(names::EXECUTE, Side::Client, Shape::Statement),
+    Entry(names::EXECUTE_LONG, Side::Client, Shape::Statement),
+    Entry(names::BULK_LOAD_ERROR, Side::Client, Shape::Coded),
+    Entry(names::SET_OPTIONS, Side::Client, Shape::Options),
+    Entry(names::SEND_SESSION_PARAMETERS, Side::Server, Shape::Empty),
+    Entry(names::SEND_AUTH_PARAMETERS, Side::Server, Shape::Empty),
+    Entry(names::AUTHENTICATION_OK, Side::Server, Shape::Empty),
+    Entry(names::BEGIN_OK, Side::Server, Shape::Empty),
+    Entry(names::COMMIT_OK, Side::Server, Shape::Empty),
+    Entry(names::ROLLBACK_OK, Side::Server, Shape::Empty),
+    Entry(names::QUERY_SUCCEEDED, Side::Server, Shape::Empty),
+    Entry(names::UPDATE_SUCCEEDED, Side::Server, Shape::Empty),
+    Entry(names::ITEM_END, Side::Server, Shape::Empty),
+    Entry(names::RESULT_END, Side::Server, Shape::Empty),
+    Entry(names::BULK_LOAD_FROM_STREAM, Side::Server, Shape::Empty),
+    Entry(names::BULK_LOAD_SUCCEEDED, Side::Server, Shape::Empty),
+    Entry(names::CLOSE_OK, Side::Server, Shape::Empty),
+    Entry(names::ROLLBACK_BEFORE_CLOSE, Side::Server, Shape::Empty),
+    Entry(names::SET_OPTIONS_OK, Side::Server, Shape::Empty),
+    Entry(names::RESET_OPTIONS_OK, Side::Server, Shape::Empty),
+    Entry(names::ERROR_RESPONSE, Side::Server, Shape::Coded),
+    Entry(names::AUTHENTICATION_FAILED, Side::Server, Shape::Coded),
+    Entry(names::BEGIN_FAILED, Side::Server, Shape::Coded),
+    Entry(names::COMMIT_FAILED, Side::Server, Shape::Coded),
+    Entry(names::ROLLBACK_FAILED, Side::Server, Shape::Coded),
+    Entry(names::DEBUG_INFO, Side::Server, Shape::Coded),
+    Entry(names::QUERY_FAILED, Side::Server, Shape::Coded),
+    Entry(names::UPDATE_FAILED, Side::Server, Shape::Coded),
+    Entry(names::BULK_LOAD_FAILED, Side::Server, Shape::Coded),
+    Entry(names::ITEM_PART, Side::Server, Shape::Text),
+    Entry(names::BULK_LOAD_FILE_NAME, Side::Server, Shape::Text),
+    Entry(names::LAST_QUERY_TIME, Side::Server, Shape::Text),
+    Entry(names::ITEM_START, Side::Server, Shape::Item),
 ];
 
 pub fn table() -> [Entry; 46]
