@@ -41,7 +41,7 @@ shaped-back Coded = refl
 shaped-back Options = refl
 shaped-back Item = refl
 
-same-shape : (a b : Shape) → sameShape a b ≡ true → a ≡ b
+pub same-shape : (a b : Shape) → sameShape a b ≡ true → a ≡ b
 same-shape a b e = sym (shaped-back a) ∙ ap shaped (eqb-true _ _ e) ∙ shaped-back b
 
 pub encode-length : (m : Message) → length (encode m) ≡ 8 + length (bodyBytes (m .body))

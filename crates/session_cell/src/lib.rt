@@ -1,0 +1,16 @@
+// The step over a session record that is lent, where the gateway keeps it.
+ghost use mathlib.Core.Path.{_≡_};
+ghost use Rattle.session_cell.specs.Lent.{lentAnswer, lentLeft};
+use sedna::Side;
+use sedna_read::Reading;
+use session::Session;
+use session::step;
+
+// The step by value, on the record where it lies. A refused step leaves it as it was.
+pub fn step_lent(s: &mut Session, side: Side, bytes: &[u8]) -> Reading
+    ensures { λ r. ⌜ (now (s .exit) ≡ lentLeft (now (s .entry)) side (now (bytes .entry))) × (r ≡ lentAnswer (now (s .entry)) side (now (bytes .entry))) ⌝ }
+{
+    let out = step(*s, side, bytes);
+    *s = out.session;
+    out.answer
+}

@@ -1,0 +1,1 @@
+// The session's machine follows the grammar: laws only, in proofs/.
