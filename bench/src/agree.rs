@@ -2,6 +2,7 @@
 //! lent memory has to be the same.
 
 mod reading;
+mod stepping;
 mod tally;
 mod writing;
 
@@ -29,6 +30,7 @@ pub fn run() -> Result<Tally, Disagreement> {
         let value = request.value();
         outputs.compare(request.instruction, &value, request.room, &mut tally)?;
     }
+    stepping::compare(&mut tally)?;
     tally.complete()?;
     Ok(tally)
 }

@@ -2,12 +2,44 @@
 //! not inlined, and a message told as ten numbers. What a caller of a compiled library would get.
 
 use crate::library::FIELDS;
-use bench::plain::{self, Body, Side, Value};
+use bench::plain::{self, Body, Message, Session, Side, Value};
 
-/// As `library::read`, for a good side and enough numbers: one match, each number stored once.
+/// As `library::read`, for a good side and enough numbers.
 #[inline(never)]
 pub fn read(side: Side, bytes: &[u8], fields: &mut [u64; FIELDS]) -> Result<usize, u8> {
     let message = plain::read(side, bytes)?;
+    tell(&message, bytes, fields);
+    Ok(message.count)
+}
+
+/// As `library::fresh`, for a record that is long enough.
+#[inline(never)]
+pub fn fresh(session: &mut Session) {
+    *session = Session::FRESH;
+}
+
+/// As `library::step`, for a record of its own kind, a good side and enough numbers.
+#[inline(never)]
+pub fn step(
+    session: &mut Session,
+    side: Side,
+    bytes: &[u8],
+    fields: &mut [u64; FIELDS],
+) -> Result<usize, u8> {
+    let message = session.step(side, bytes)?;
+    tell(&message, bytes, fields);
+    Ok(message.count)
+}
+
+/// As `library::closed`.
+#[inline(never)]
+pub fn closed(session: &Session) -> bool {
+    session.closed()
+}
+
+/// A message as ten numbers: one match, each number stored once.
+#[inline(always)]
+fn tell(message: &Message, bytes: &[u8], fields: &mut [u64; FIELDS]) {
     let i = message.instruction.into();
     let at = |part: &[u8]| part.as_ptr() as u64 - bytes.as_ptr() as u64;
     let n = |part: &[u8]| part.len() as u64;
@@ -30,7 +62,6 @@ pub fn read(side: Side, bytes: &[u8], fields: &mut [u64; FIELDS]) -> Result<usiz
             [i, 6, class.into(), kind.into(), at(p), n(p), at(u), n(u), 0, 1]
         }
     };
-    Ok(message.count)
 }
 
 /// As `library::write`: a match here, and one call for each shape.

@@ -1,21 +1,27 @@
 //! A fixed stream of inputs: the same ones in every run and on every machine.
 //! Nothing here uses the plain reader or writer: a message is put together by
-//! an encoder of its own.
+//! an encoder of its own. The plain session only tells which may come next.
 
 mod damage;
+mod day;
 mod requests;
 mod rng;
 mod sets;
 mod sweep;
 mod valid;
+mod walks;
+mod ways;
 
 use crate::plain::{Shape, Side};
 use damage::damage;
 use rng::Rng;
 use valid::{body_length, sample};
 
+pub use day::day;
 pub use requests::{requests, Request};
 pub use sets::{full, shuffled, small};
+pub use walks::conversations;
+pub use ways::{each_message, ways};
 
 /// Random inputs for the readers, besides the sweep.
 const RANDOM_INPUTS: usize = 300_000;

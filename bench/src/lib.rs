@@ -1,5 +1,5 @@
-//! The plain Rust reader and writer of Sedna messages, and the inputs on which
-//! it is held against the library.
+//! The plain Rust reader, writer and session of Sedna's protocol, and the inputs
+//! on which they are held against the library.
 #![forbid(unsafe_code)]
 
 pub mod inputs;

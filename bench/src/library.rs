@@ -5,6 +5,9 @@ use bench::plain::Value;
 /// How many numbers a message that was read fills.
 pub const FIELDS: usize = 10;
 
+/// How many bytes the record of a session has.
+pub const SESSION: usize = 2;
+
 /// What each of the numbers is; those that a shape does not use are 0.
 pub mod field {
     pub const INSTRUCTION: usize = 0;
@@ -27,6 +30,12 @@ extern "C" {
     fn kdr_read(
         side: u8, bytes: *const u8, len: usize, fields: *mut u64, fields_len: usize,
     ) -> u64;
+    fn kdr_fresh(session: *mut u8, session_len: usize) -> u64;
+    fn kdr_step(
+        session: *mut u8, session_len: usize, side: u8, bytes: *const u8, len: usize,
+        fields: *mut u64, fields_len: usize,
+    ) -> u64;
+    fn kdr_closed(session: *const u8, session_len: usize) -> u8;
     fn kdr_option(
         bytes: *const u8, len: usize, start: usize, region_len: usize, k: usize,
         fields: *mut u64, fields_len: usize,
@@ -76,6 +85,34 @@ pub fn read(side: u8, bytes: &[u8], fields: &mut [u64]) -> Result<usize, u8> {
     answer(unsafe {
         kdr_read(side, bytes.as_ptr(), bytes.len(), fields.as_mut_ptr(), fields.len())
     })
+}
+
+/// Puts a fresh session into the front of `session`; the answer is 0.
+pub fn fresh(session: &mut [u8]) -> Result<usize, u8> {
+    // SAFETY: as in `read`.
+    answer(unsafe { kdr_fresh(session.as_mut_ptr(), session.len()) })
+}
+
+/// As `read`, for a message that the session goes on with; the session is then the one after it.
+pub fn step(session: &mut [u8], side: u8, bytes: &[u8], fields: &mut [u64]) -> Result<usize, u8> {
+    // SAFETY: as in `read`; the session and the numbers are borrowed apart from the bytes.
+    answer(unsafe {
+        kdr_step(
+            session.as_mut_ptr(),
+            session.len(),
+            side,
+            bytes.as_ptr(),
+            bytes.len(),
+            fields.as_mut_ptr(),
+            fields.len(),
+        )
+    })
+}
+
+/// Whether the conversation has ended.
+pub fn closed(session: &[u8]) -> bool {
+    // SAFETY: as in `read`.
+    unsafe { kdr_closed(session.as_ptr(), session.len()) == 1 }
 }
 
 /// 1 and id, start and length of the k-th pair in `fields`, or 0 for none.

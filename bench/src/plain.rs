@@ -1,12 +1,15 @@
-//! Sedna messages in plain, safe Rust, written from document 01 and from
+//! Sedna messages and sessions in plain, safe Rust, written from document 01 and from
 //! nothing of the library: the other side of every comparison.
 
+pub mod instruction;
 mod read;
+mod session;
 #[cfg(test)]
 mod tests;
 mod write;
 
 pub use read::read;
+pub use session::{Answer, Phase, Session};
 pub use write::{
     write, write_coded, write_empty, write_item, write_options, write_session, write_statement,
     write_text,
@@ -17,7 +20,7 @@ pub const BODY_MAX: usize = 10_240;
 /// Instruction and body length.
 pub const HEAD: usize = 8;
 
-/// Document 01's refusal numbers, as far as messages have them.
+/// Document 01's refusal numbers, as far as messages and sessions have them.
 pub mod refusal {
     pub const MORE_NEEDED: u8 = 1;
     pub const UNKNOWN: u8 = 2;
@@ -27,6 +30,7 @@ pub mod refusal {
     pub const STRING_FORMAT: u8 = 6;
     pub const LEFT_OVER: u8 = 7;
     pub const NOT_ALLOWED: u8 = 8;
+    pub const OUT_OF_ORDER: u8 = 9;
     pub const NO_ROOM: u8 = 10;
     pub const NO_ENCODING: u8 = 11;
 }

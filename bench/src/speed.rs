@@ -2,9 +2,10 @@
 
 mod reading;
 mod rounds;
+mod stepping;
 mod writing;
 
-use bench::inputs::{full, shuffled, small, Input};
+use bench::inputs::{day, full, shuffled, small, Input};
 
 /// Calls in one pass over a set.
 const CALLS: usize = 6_000;
@@ -23,6 +24,8 @@ pub fn run() {
     row("Execute, 10,248 bytes", &full(300));
     row("BulkLoadPortion, 10,248 bytes", &full(410));
     row("SetOptions, 10,248 bytes", &full(530));
+    println!();
+    steps(&day());
 }
 
 fn row(name: &str, set: &[Input]) {
@@ -35,4 +38,18 @@ fn row(name: &str, set: &[Input]) {
     ];
     let [a, b, c, d] = ratios;
     println!("{name:<34}{a:<11.2}{b:<11.2}{c:<11.2}{d:.2}");
+}
+
+fn steps(day: &[Input]) {
+    let (called, inlined) = (stepping::called(day), stepping::inlined(day));
+    println!("{:<34}{:<22}inlined", "session", "called");
+    let name = format!("steps over {} messages", day.len());
+    println!("{name:<34}{:<22.2}{:.2}", called.ratio, inlined.ratio);
+    let millions = |seconds: f64| day.len() as f64 / seconds / 1e6;
+    println!();
+    println!("million messages stepped in a second, of the same rounds:");
+    let [a, b] = [called.first, inlined.first].map(millions);
+    println!("{:<34}{a:<22.1}{b:.1}", "plain");
+    let [a, b] = [called.second, inlined.second].map(millions);
+    println!("{:<34}{a:<22.1}{b:.1}", "library");
 }

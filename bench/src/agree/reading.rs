@@ -6,10 +6,10 @@ use bench::inputs::Input;
 use bench::plain::{self, Body, Message, Pairs, Shape};
 
 /// More than the library needs, so that writing behind them shows.
-type Lent = [u64; FIELDS + 2];
+pub type Lent = [u64; FIELDS + 2];
 
 /// What stands in lent numbers before a call.
-const FILL: u64 = 99_999_999_999;
+pub const FILL: u64 = 99_999_999_999;
 
 pub fn compare(input: &Input, tally: &mut Tally) -> Result<(), Disagreement> {
     let plain = plain::read(input.side, &input.bytes);
@@ -74,7 +74,7 @@ pub fn bad_calls() -> Result<(), Disagreement> {
 }
 
 /// The numbers by which the library tells this message.
-fn flat(bytes: &[u8], message: &Message) -> [u64; FIELDS] {
+pub fn flat(bytes: &[u8], message: &Message) -> [u64; FIELDS] {
     let at = |part: &[u8]| [place(bytes, part) as u64, part.len() as u64];
     let none = [0, 0];
     let (shape, a, b, first, second) = match message.body {

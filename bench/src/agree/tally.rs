@@ -5,9 +5,10 @@ use bench::inputs::MESSAGES;
 use std::collections::BTreeMap;
 use std::fmt;
 
-/// The refusals that reading and writing can give.
+/// The refusals that reading, writing and stepping can give.
 const READING: [u8; 8] = [1, 2, 3, 4, 5, 6, 7, 8];
 const WRITING: [u8; 4] = [2, 8, 10, 11];
+const STEPPING: [u8; 9] = [1, 2, 3, 4, 5, 6, 7, 8, 9];
 
 #[derive(Default)]
 pub struct Tally {
@@ -17,6 +18,10 @@ pub struct Tally {
     read_refused: BTreeMap<u8, usize>,
     write_refused: BTreeMap<u8, usize>,
     written: usize,
+    /// Accepted steps by instruction, and refused ones by number.
+    stepped: BTreeMap<u32, usize>,
+    step_refused: BTreeMap<u8, usize>,
+    sessions: usize,
 }
 
 impl Tally {
@@ -34,17 +39,42 @@ impl Tally {
         }
     }
 
+    pub fn session(&mut self) {
+        self.sessions += 1;
+    }
+
+    pub fn step(&mut self, answer: Result<u32, u8>) {
+        match answer {
+            Ok(instruction) => *self.stepped.entry(instruction).or_default() += 1,
+            Err(number) => *self.step_refused.entry(number).or_default() += 1,
+        }
+    }
+
     /// Every message accepted and every refusal met, or the comparison says less
     /// than it seems to.
     pub fn complete(&self) -> Result<(), Disagreement> {
         let messages = MESSAGES.iter().all(|m| self.accepted.contains_key(&m.0));
         let reading = READING.iter().all(|n| self.read_refused.contains_key(n));
         let writing = WRITING.iter().all(|n| self.write_refused.contains_key(n));
-        if messages && reading && writing {
+        let steps = MESSAGES.iter().all(|m| self.stepped.contains_key(&m.0));
+        let stepping = STEPPING.iter().all(|n| self.step_refused.contains_key(n));
+        if messages && reading && writing && steps && stepping {
             Ok(())
         } else {
             Err(format!("a message or a refusal was never met\n{self}"))
         }
+    }
+
+    fn show_steps(&self, f: &mut fmt::Formatter) -> fmt::Result {
+        let accepted: usize = self.stepped.values().sum();
+        let refused: usize = self.step_refused.values().sum();
+        writeln!(f, "agree: {} offers to {} sessions", accepted + refused, self.sessions)?;
+        write!(
+            f,
+            "  stepping: {accepted} accepted ({} instructions), refused {:?}",
+            self.stepped.len(),
+            self.step_refused
+        )
     }
 }
 
@@ -61,6 +91,7 @@ impl fmt::Display for Tally {
             self.accepted.len(),
             self.read_refused
         )?;
-        write!(f, "  writing: {} accepted, refused {:?}", self.written, self.write_refused)
+        writeln!(f, "  writing: {} accepted, refused {:?}", self.written, self.write_refused)?;
+        self.show_steps(f)
     }
 }

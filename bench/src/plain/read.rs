@@ -1,4 +1,5 @@
-//! Reading one message, in document 01's order of refusals.
+//! Reading one message, in document 01's order of refusals. Inlined by order: left to itself the
+//! compiler makes a call of it, and the message goes through memory once more.
 
 use super::refusal::{
     BODY_TOO_LONG, ENDS_INSIDE, LEFT_OVER, MORE_NEEDED, NOT_ALLOWED, OTHER_SIDE, STRING_FORMAT,
@@ -10,6 +11,7 @@ use super::{
 };
 
 /// Reads the message at the front of `bytes`; what follows it is not touched.
+#[inline(always)]
 pub fn read(side: Side, bytes: &[u8]) -> Result<Message<'_>, u8> {
     let (instruction, rest) = int(bytes).map_err(|_| MORE_NEEDED)?;
     let (length, rest) = int(rest).map_err(|_| MORE_NEEDED)?;
@@ -26,6 +28,7 @@ pub fn read(side: Side, bytes: &[u8]) -> Result<Message<'_>, u8> {
 }
 
 /// The fields from left to right, and nothing behind them.
+#[inline(always)]
 fn body(shape: Shape, bytes: &[u8]) -> Result<Body<'_>, u8> {
     let (body, rest) = match shape {
         Shape::Empty => (Body::Empty, bytes),
@@ -52,6 +55,7 @@ fn body(shape: Shape, bytes: &[u8]) -> Result<Body<'_>, u8> {
 /// A field, and the bytes behind it.
 type Field<'a, T> = Result<(T, &'a [u8]), u8>;
 
+#[inline(always)]
 fn session(bytes: &[u8]) -> Field<'_, Body<'_>> {
     let (&version, rest) = bytes.split_first_chunk().ok_or(ENDS_INSIDE)?;
     if !version_allowed(version) {
@@ -64,12 +68,14 @@ fn session(bytes: &[u8]) -> Field<'_, Body<'_>> {
     Ok((body, rest))
 }
 
+#[inline(always)]
 fn statement(bytes: &[u8]) -> Field<'_, Body<'_>> {
     let (format, rest) = byte(bytes, format_allowed)?;
     let (text, rest) = string(rest)?;
     Ok((Body::Statement { format, text }, rest))
 }
 
+#[inline(always)]
 fn item(bytes: &[u8]) -> Field<'_, Body<'_>> {
     let (class, rest) = byte(bytes, class_allowed)?;
     let (kind, rest) = byte(rest, kind_allowed)?;
@@ -86,6 +92,7 @@ fn item(bytes: &[u8]) -> Field<'_, Body<'_>> {
 }
 
 /// Pairs up to the body's end, so nothing can be left over.
+#[inline(always)]
 fn options(region: &[u8]) -> Result<Body<'_>, u8> {
     let mut count = 0;
     let mut rest = region;
@@ -97,12 +104,14 @@ fn options(region: &[u8]) -> Result<Body<'_>, u8> {
 }
 
 /// One option: its id, its value, and the bytes behind it.
+#[inline(always)]
 pub(super) fn pair(bytes: &[u8]) -> Result<(u32, &[u8], &[u8]), u8> {
     let (id, rest) = int(bytes)?;
     let (value, rest) = string(rest)?;
     Ok((id, value, rest))
 }
 
+#[inline(always)]
 fn byte(bytes: &[u8], allowed: impl Fn(u8) -> bool) -> Field<'_, u8> {
     let (&byte, rest) = bytes.split_first().ok_or(ENDS_INSIDE)?;
     if !allowed(byte) {
@@ -111,12 +120,14 @@ fn byte(bytes: &[u8], allowed: impl Fn(u8) -> bool) -> Field<'_, u8> {
     Ok((byte, rest))
 }
 
+#[inline(always)]
 fn int(bytes: &[u8]) -> Field<'_, u32> {
     let (int, rest) = bytes.split_first_chunk().ok_or(ENDS_INSIDE)?;
     Ok((u32::from_be_bytes(*int), rest))
 }
 
 /// The format byte is judged before the length is looked for.
+#[inline(always)]
 fn string(bytes: &[u8]) -> Field<'_, &[u8]> {
     match bytes {
         [0, rest @ ..] => {

@@ -51,7 +51,7 @@ fn library(input: &Input, fields: &mut [u64; FIELDS]) -> u64 {
     }
 }
 
-fn weigh_message(bytes: &[u8], message: &Message) -> u64 {
+pub fn weigh_message(bytes: &[u8], message: &Message) -> u64 {
     let weigh = |part: &[u8]| {
         let start = part.as_ptr() as usize - bytes.as_ptr() as usize;
         (start + part.len()) as u64
@@ -72,7 +72,7 @@ fn weigh_message(bytes: &[u8], message: &Message) -> u64 {
     u64::from(message.instruction) + message.count as u64 + body
 }
 
-fn weigh_fields(count: usize, fields: &[u64; FIELDS]) -> u64 {
+pub fn weigh_fields(count: usize, fields: &[u64; FIELDS]) -> u64 {
     const SESSION: u64 = Shape::Session as u64;
     const TEXT: u64 = Shape::Text as u64;
     const STATEMENT: u64 = Shape::Statement as u64;

@@ -20,6 +20,8 @@ use sedna_write::Written;
 use wire::Place;
 use wire::Refusal;
 
+mod sessions;
+
 fn refusal_code(r: Refusal) -> u64
     ensures { λ n. ⌜ n ≡ refusalCode r ⌝ }
 {
@@ -129,13 +131,11 @@ fn read_side(side: u8, bytes: &[u8]) -> Reading
     Reading::Refused(Refusal::ValueNotAllowed)
 }
 
-// Reads the message at the front of bytes: side 1 is the client, 2 the server. The fields are
-// instruction, shape, two numbers, two places, a count and whether there is a URL; see fieldsOf.
-#[no_mangle]
-pub extern "C" fn kdr_read(side: u8, bytes: &[u8], fields: &mut [u64]) -> u64
-    ensures { λ r. ⌜ (r ≡ readCode (sideReading side (now (bytes .entry))) (length (now (fields .entry)))) × (now (fields .exit) ≡ fieldsLeft (sideReading side (now (bytes .entry))) (now (fields .entry))) ⌝ }
+// A reading as a number, its fields in the lent ones.
+fn reading_code(reading: Reading, fields: &mut [u64]) -> u64
+    ensures { λ r. ⌜ (r ≡ readCode reading (length (now (fields .entry)))) × (now (fields .exit) ≡ fieldsLeft reading (now (fields .entry))) ⌝ }
 {
-    match read_side(side, bytes) {
+    match reading {
         Reading::Refused(r) => refusal_code(r),
         Reading::Message {
             instruction,
@@ -149,6 +149,15 @@ pub extern "C" fn kdr_read(side: u8, bytes: &[u8], fields: &mut [u64]) -> u64
             count as u64
         }
     }
+}
+
+// Reads the message at the front of bytes: side 1 is the client, 2 the server. The fields are
+// instruction, shape, two numbers, two places, a count and whether there is a URL; see fieldsOf.
+#[no_mangle]
+pub extern "C" fn kdr_read(side: u8, bytes: &[u8], fields: &mut [u64]) -> u64
+    ensures { λ r. ⌜ (r ≡ readCode (sideReading side (now (bytes .entry))) (length (now (fields .entry)))) × (now (fields .exit) ≡ fieldsLeft (sideReading side (now (bytes .entry))) (now (fields .entry))) ⌝ }
+{
+    reading_code(read_side(side, bytes), fields)
 }
 
 // The option number k among the pairs from start on: its id and its value's place.

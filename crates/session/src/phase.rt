@@ -13,7 +13,7 @@ pub const IDLE_IN: u8 = 4;
 pub const SENDING: u8 = 5;
 // After ItemEnd.
 pub const AFTER_ITEM: u8 = 6;
-// After ResultEnd, and nothing since but GetNextItem with ResultEnd.
+// After ResultEnd, and nothing since but GetNextItem answered by DebugInfo* ResultEnd.
 pub const FINISHED: u8 = 7;
 // A file was asked for, and no portion of it sent yet.
 pub const LOADING: u8 = 8;

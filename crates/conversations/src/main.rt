@@ -1,0 +1,92 @@
+// Replays conversations from standard input through the session's step, and prints a line for each:
+//     VERSION WORD WORD .. # comment
+// VERSION is 1 to 4, and SessionParameters names it. A word is an instruction's number, `start` for
+// the six messages of a good start, or `in` for these and a transaction begun. Each message is well
+// formed and comes from its own side. Behind an instruction stands `!N` where the step refused it
+// with N; the session then goes on as it was. An empty line and one that starts with # are printed
+// as they are, any other line with `?`. Behind 4,096 bytes a line counts as a new one.
+mod message;
+mod replay;
+mod text;
+
+use libc::STDIN_FILENO;
+use text::behind;
+use text::first;
+use text::front;
+use text::say;
+use text::say_number;
+
+// The major version that a word names; 0 where it names none.
+fn version_of(word: &[u8]) -> u8 {
+    if word.len() != 1 {
+        return 0;
+    }
+    let b = word[0];
+    match b {
+        b'1'..=b'4' => b - b'0',
+        _ => 0,
+    }
+}
+
+fn answer(line: &[u8]) {
+    let told = front(line, b'#');
+    let version = version_of(front(told, b' '));
+    let words = behind(told, b' ');
+    if version == 0 || !replay::readable(words) {
+        say(line);
+        say(b" ?");
+        return;
+    }
+    say_number(version as u64);
+    say(b":");
+    replay::conversation(version, words);
+    if told.len() < line.len() {
+        say(b" #");
+        say(behind(line, b'#'));
+    }
+}
+
+fn show(line: &[u8]) {
+    if line.len() == 0 || line[0] == b'#' {
+        say(line);
+    } else {
+        answer(line);
+    }
+    say(b"\n");
+}
+
+// Reads one line with its end, byte by byte so that nothing behind it is taken from the input.
+// Answers how many bytes; 0 at the end of the input.
+fn read_line(buffer: &mut [u8]) -> usize {
+    let mut n = 0;
+    while n < buffer.len() {
+        let end = n + 1;
+        if io::read_full(STDIN_FILENO, &mut buffer[n..end]) == 0 {
+            return n;
+        }
+        if buffer[n] == b'\n' {
+            return end;
+        }
+        n = end;
+    }
+    n
+}
+
+// Whether there was one more line.
+fn next_line() -> bool {
+    let mut buffer = io::buffer();
+    let n = read_line(&mut buffer);
+    if n == 0 {
+        return false;
+    }
+    show(front(first(&buffer, n), b'\n'));
+    true
+}
+
+// A proved loop has to end: this one counts down from a number that no input uses up.
+fn main() {
+    let mut turns = u64::MAX;
+    while turns > 0 && next_line() {
+        turns -= 1;
+    }
+}

@@ -1,0 +1,43 @@
+// A small well formed message of each instruction, and the step on it.
+use crate::text::first;
+use crate::text::say;
+use crate::text::say_number;
+use sedna::Found;
+use sedna::Shape;
+use sedna_read::Reading;
+use sedna_write::Written;
+use session::Session;
+
+// Writes the message; a session's parameters name the version.
+fn write(out: &mut [u8], instruction: u32, shape: Shape, version: u8) -> Written {
+    match shape {
+        Shape::Empty => sedna_write::write_empty(out, instruction),
+        Shape::Session => sedna_write::write_session(out, instruction, version, 0, b"u", b"d"),
+        Shape::Text => sedna_write::write_text(out, instruction, b"x"),
+        Shape::Statement => sedna_write::write_statement(out, instruction, 0, b"x"),
+        Shape::Coded => sedna_write::write_coded(out, instruction, 1, b"x"),
+        Shape::Options => sedna_write::write_options(out, instruction, &[], &[], &[]),
+        Shape::Item => sedna_write::write_item(out, instruction, 1, 24, b"x"),
+    }
+}
+
+// Offers an instruction from the side that sends it, and prints it with the refusal, if any. One
+// that the table lacks does not get here: `replay::readable` is asked first.
+pub fn offer(session: Session, version: u8, instruction: u32) -> Session {
+    let mut space = [0u8; 64];
+    let Found::Known(side, shape) = sedna::find(instruction) else {
+        return session;
+    };
+    let Written::Bytes(n) = write(&mut space, instruction, shape, version) else {
+        return session;
+    };
+    let after = session::step(session, side, first(&space, n));
+    say(b" ");
+    say_number(instruction as u64);
+    let answer = after.answer;
+    if let Reading::Refused(r) = answer {
+        say(b"!");
+        say_number(wire::number(r) as u64);
+    }
+    after.session
+}
