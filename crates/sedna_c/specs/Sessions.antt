@@ -1,4 +1,5 @@
 -- The session for programs in C and Rust: the caller keeps the record in the first two bytes of what it lends.
+use mathlib.Core.Bool.{not}
 use mathlib.Core.List.{List, _∷_}
 use Prim.Native.Nat.{ℕ}
 use lib.Dec.{eqb, ltb}
@@ -8,9 +9,15 @@ use Rattle.wire.specs.declared.Refusal.the-variants.{ValueNotAllowed, NoRoom}
 use Rattle.sedna.specs.declared.Side.the-variants.{Client, Server}
 use Rattle.sedna_read.specs.declared.Reading.{Reading}
 use Rattle.sedna_read.specs.declared.Reading.the-variants as read
+use Rattle.sedna_read.specs.Places.{located}
+use Rattle.sedna_read.specs.Reading.{reading, lastly}
 use Rattle.session.specs.declared.Session.{Session}
 use Rattle.session.specs.declared.Stepped.{Stepped}
+use Rattle.session.specs.Machine.{refused}
+use Rattle.session.specs.Settled.{afterAnswer}
 use Rattle.session.specs.Step.{freshSession, stepped, closedOf}
+use Rattle.sedna_c.specs.declared.sessions.Sender.{Sender}
+use Rattle.sedna_c.specs.declared.sessions.Sender.the-variants as sender
 use Rattle.sedna_c.specs.Codes.{refusalCode, readCode, fieldsLeft}
 
 -- the record in the first two bytes: phase, version
@@ -58,3 +65,14 @@ stepLeft d side bytes room =
 -- 1 where a conversation is over, else 0
 abbrev pub closedCode : List ℕ → ℕ
 closedCode d = if (ltb (length d) 2) 0 (if (closedOf (recordIn d)) 1 0)
+
+-- what the code goes by: the answer to a message that leads to the phase `to`, and the record behind it
+abbrev pub senderOf : ℕ → Sender
+senderOf side = if (eqb side 1) (sender.Is Client) (if (eqb side 2) (sender.Is Server) sender.Nobody)
+
+abbrev pub answerOf : Sender → ℕ → List ℕ → Reading
+answerOf sender.Nobody to bytes = read.Refused ValueNotAllowed
+answerOf (sender.Is side) to bytes = located (lastly (not (eqb to refused)) (reading side bytes))
+
+abbrev pub ledTo : ℕ → Reading → ℕ → List ℕ → List ℕ
+ledTo to answer room d = kept answer (afterAnswer (recordIn d) to answer) room d

@@ -11,10 +11,8 @@ ghost use Rattle.sedna_read.specs.Places.{optionAt};
 ghost use Rattle.sedna_write.specs.Pairs.{given, pairsOf};
 ghost use Rattle.sedna_write.specs.Writing.{judgement, message, written, left};
 ghost use Rattle.sedna_c.specs.Codes.{refusalCode, writtenCode, fieldList, fieldsOf, sideReading, readCode, fieldsLeft, optionCode, optionLeft};
-use sedna::Side;
 use sedna_read::OptionPlace;
 use sedna_read::Places;
-use sedna_read::Reading;
 use sedna_read::UrlPlace;
 use sedna_write::Written;
 use wire::Place;
@@ -119,45 +117,14 @@ fn store_places(fields: &mut [u64], instruction: u32, places: Places)
     }
 }
 
-fn read_side(side: u8, bytes: &[u8]) -> Reading
-    ensures { λ r. ⌜ r ≡ sideReading side (now (bytes .entry)) ⌝ }
-{
-    if side == 1 {
-        return sedna_read::read(Side::Client, bytes);
-    }
-    if side == 2 {
-        return sedna_read::read(Side::Server, bytes);
-    }
-    Reading::Refused(Refusal::ValueNotAllowed)
-}
-
-// A reading as a number, its fields in the lent ones.
-fn reading_code(reading: Reading, fields: &mut [u64]) -> u64
-    ensures { λ r. ⌜ (r ≡ readCode reading (length (now (fields .entry)))) × (now (fields .exit) ≡ fieldsLeft reading (now (fields .entry))) ⌝ }
-{
-    match reading {
-        Reading::Refused(r) => refusal_code(r),
-        Reading::Message {
-            instruction,
-            places,
-            count,
-        } => {
-            if fields.len() < 10 {
-                return refusal_code(Refusal::NoRoom);
-            }
-            store_places(fields, instruction, places);
-            count as u64
-        }
-    }
-}
-
 // Reads the message at the front of bytes: side 1 is the client, 2 the server. The fields are
 // instruction, shape, two numbers, two places, a count and whether there is a URL; see fieldsOf.
 #[no_mangle]
 pub extern "C" fn kdr_read(side: u8, bytes: &[u8], fields: &mut [u64]) -> u64
     ensures { λ r. ⌜ (r ≡ readCode (sideReading side (now (bytes .entry))) (length (now (fields .entry)))) × (now (fields .exit) ≡ fieldsLeft (sideReading side (now (bytes .entry))) (now (fields .entry))) ⌝ }
 {
-    reading_code(read_side(side, bytes), fields)
+    let mut no_session = [0u8; 2];
+    sessions::take(side, bytes, 0, &mut no_session, fields)
 }
 
 // The option number k among the pairs from start on: its id and its value's place.

@@ -3,13 +3,15 @@
 ghost use mathlib.Core.Path.{_≡_};
 ghost use Prim.Native.Nat.{_≤_};
 ghost use lib.ListN.{length};
-ghost use Rattle.sedna_c.specs.Sessions.{recordIn, recordPut, freshCode, freshLeft, sideStepped, stepCode, stepFields, kept, stepLeft, closedCode};
-use crate::reading_code;
+ghost use Rattle.sedna_c.specs.Codes.{readCode, fieldsLeft};
+ghost use Rattle.sedna_c.specs.Sessions.{recordIn, recordPut, freshCode, freshLeft, senderOf, answerOf, ledTo, stepCode, stepFields, stepLeft, closedCode};
 use crate::refusal_code;
+use crate::store_places;
 use sedna::Side;
 use sedna_read::Reading;
 use session::Session;
-use session::Stepped;
+use session::machine::next;
+use session::phase::REFUSED;
 use wire::Refusal;
 
 fn record_in(session: &[u8]) -> Session
@@ -42,32 +44,59 @@ pub extern "C" fn kdr_fresh(session: &mut [u8]) -> u64
     0
 }
 
-fn step_side(session: Session, side: u8, bytes: &[u8]) -> Stepped
-    ensures { λ r. ⌜ r ≡ sideStepped session side (now (bytes .entry)) ⌝ }
+// An answer as a number; what was accepted goes to the lent fields, and leads the record to the
+// phase `to`. All or nothing.
+fn answer_code(answer: Reading, to: u8, session: &mut [u8], fields: &mut [u64]) -> u64
+    requires { ⌜ 2 ≤ length (now session) ⌝ }
+    ensures { λ r. ⌜ (r ≡ readCode answer (length (now (fields .entry)))) × (now (session .exit) ≡ ledTo to answer (length (now (fields .entry))) (now (session .entry))) × (now (fields .exit) ≡ fieldsLeft answer (now (fields .entry))) ⌝ }
 {
-    if side == 1 {
-        return session::step(session, Side::Client, bytes);
-    }
-    if side == 2 {
-        return session::step(session, Side::Server, bytes);
-    }
-    Stepped {
-        session,
-        answer: Reading::Refused(Refusal::ValueNotAllowed),
+    match answer {
+        Reading::Refused(r) => refusal_code(r),
+        Reading::Message {
+            instruction,
+            places,
+            count,
+        } => {
+            if fields.len() < 10 {
+                return refusal_code(Refusal::NoRoom);
+            }
+            let led = session::after(record_in(session), to, answer);
+            put(session, led);
+            store_places(fields, instruction, places);
+            count as u64
+        }
     }
 }
 
-// Keeps the record after a message that is accepted and whose fields have room.
-fn keep(session: &mut [u8], after: Session, reading: Reading, room: usize)
-    requires { ⌜ 2 ≤ length (now session) ⌝ }
-    ensures { λ _. ⌜ now (session .exit) ≡ kept reading after room (now (session .entry)) ⌝ }
+// Who sent a message: side 1 is the client, 2 the server.
+pub enum Sender {
+    Is(Side),
+    Nobody,
+}
+
+fn sender_of(side: u8) -> Sender
+    ensures { λ r. ⌜ r ≡ senderOf side ⌝ }
 {
-    match reading {
-        Reading::Refused(_) => {}
-        Reading::Message { .. } => {
-            if room >= 10 {
-                put(session, after);
-            }
+    if side == 1 {
+        return Sender::Is(Side::Client);
+    }
+    if side == 2 {
+        return Sender::Is(Side::Server);
+    }
+    Sender::Nobody
+}
+
+// Reads a message for both exports, and judges 9 where it leads to no phase. The one call of the
+// reader: the compiler then makes one function of the two, and no message is put together in memory.
+pub fn take(side: u8, bytes: &[u8], to: u8, session: &mut [u8], fields: &mut [u64]) -> u64
+    requires { ⌜ 2 ≤ length (now session) ⌝ }
+    ensures { λ r. ⌜ (r ≡ readCode (answerOf (senderOf side) to (now (bytes .entry))) (length (now (fields .entry)))) × (now (session .exit) ≡ ledTo to (answerOf (senderOf side) to (now (bytes .entry))) (length (now (fields .entry))) (now (session .entry))) × (now (fields .exit) ≡ fieldsLeft (answerOf (senderOf side) to (now (bytes .entry))) (now (fields .entry))) ⌝ }
+{
+    match sender_of(side) {
+        Sender::Nobody => refusal_code(Refusal::ValueNotAllowed),
+        Sender::Is(s) => {
+            let answer = sedna_read::read_if(s, bytes, to != REFUSED);
+            answer_code(answer, to, session, fields)
         }
     }
 }
@@ -82,10 +111,8 @@ pub extern "C" fn kdr_step(session: &mut [u8], side: u8, bytes: &[u8], fields: &
         return refusal_code(Refusal::NoRoom);
     }
     let before = record_in(session);
-    let out = step_side(before, side, bytes);
-    let reading = out.answer;
-    keep(session, out.session, reading, fields.len());
-    reading_code(reading, fields)
+    let to = next(before.phase, before.version, wire::get_int(bytes, 0));
+    take(side, bytes, to, session, fields)
 }
 
 // Whether the conversation is over: 1 or 0.

@@ -1,10 +1,11 @@
 -- Document 01, "Order when reading": what reading answers, for any bytes and either side.
+use mathlib.Core.Bool.{Bool}
 use mathlib.Core.List.{List, [], _∷_}
 use Prim.Native.Nat.{ℕ, zero, suc, _+_}
 use lib.Dec.{ltb, leb}
 use lib.ListN.{length, take, drop}
 use Rattle.wire.specs.declared.Refusal.{Refusal}
-use Rattle.wire.specs.declared.Refusal.the-variants.{MoreBytes, UnknownInstruction, OtherSide, BodyTooLong, ValueNotAllowed}
+use Rattle.wire.specs.declared.Refusal.the-variants.{MoreBytes, UnknownInstruction, OtherSide, BodyTooLong, ValueNotAllowed, OutOfOrder}
 use Rattle.wire.specs.Bytes.{if, intAt}
 use Rattle.sedna.specs.declared.Side.{Side}
 use Rattle.sedna.specs.declared.Shape.{Shape}
@@ -131,3 +132,8 @@ afterHead s (Heading.headed of n) =
 
 unfoldable pub reading : Side → List ℕ → Answer
 reading side s = afterHead s (heading side s)
+
+-- "and 9 last, for a session step": a message that reads well gets 9 where the session does not take it
+abbrev pub lastly : Bool → Answer → Answer
+lastly taken (Answer.refused r) = Answer.refused r
+lastly taken (Answer.accepted m n) = if taken (Answer.accepted m n) (Answer.refused OutOfOrder)

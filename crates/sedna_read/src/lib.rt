@@ -6,7 +6,7 @@ ghost use lib.ListN.{length, take, drop};
 ghost use Rattle.sedna.specs.declared.Shape.the-variants.{Session as session, Text as text, Statement as statement, Coded as coded, Options as options, Item as item};
 ghost use Rattle.sedna_read.specs.Fields.{stringField};
 ghost use Rattle.sedna_read.specs.Places.{window, stringPlace, Within, lastField, onString, ended, bodyAt, namesField, urlPart, headAt, Bounded, located, pairPlace, PairWithin, optionAt};
-ghost use Rattle.sedna_read.specs.Reading.{heading, reading, pairField};
+ghost use Rattle.sedna_read.specs.Reading.{heading, reading, lastly, pairField};
 use sedna::Found;
 use sedna::Shape;
 use sedna::Side;
@@ -352,9 +352,10 @@ pub fn judge_head(side: Side, bytes: &[u8]) -> Head
     }
 }
 
-// Reads the message at the front of `bytes`, which `side` sent.
-pub fn read(side: Side, bytes: &[u8]) -> Reading
-    ensures { λ r. ⌜ r ≡ located (reading side (now (bytes .entry))) ⌝ }
+// Reads the message at the front of `bytes`, which `side` sent. Behind every refusal of reading, 9
+// for a message that is not to be taken: judged here, a step copies no message.
+pub fn read_if(side: Side, bytes: &[u8], taken: bool) -> Reading
+    ensures { λ r. ⌜ r ≡ located (lastly taken (reading side (now (bytes .entry)))) ⌝ }
 {
     match judge_head(side, bytes) {
         Head::Refused(r) => Reading::Refused(r),
@@ -366,14 +367,27 @@ pub fn read(side: Side, bytes: &[u8]) -> Reading
             let instruction = wire::get_int(bytes, 0);
             match body_at(shape, bytes, 8, end) {
                 Parsed::Refused(r) => Reading::Refused(r),
-                Parsed::Body(places) => Reading::Message {
-                    instruction,
-                    places,
-                    count: end,
-                },
+                Parsed::Body(places) => {
+                    if taken {
+                        Reading::Message {
+                            instruction,
+                            places,
+                            count: end,
+                        }
+                    } else {
+                        Reading::Refused(Refusal::OutOfOrder)
+                    }
+                }
             }
         }
     }
+}
+
+// Reads the message at the front of `bytes`, which `side` sent.
+pub fn read(side: Side, bytes: &[u8]) -> Reading
+    ensures { λ r. ⌜ r ≡ located (reading side (now (bytes .entry))) ⌝ }
+{
+    read_if(side, bytes, true)
 }
 
 // Where a place that starts in n bytes ends, as far as they go.

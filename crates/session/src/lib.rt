@@ -1,14 +1,13 @@
 // The session: where a conversation of document 01's grammar stands, and its step.
 ghost use mathlib.Core.Path.{_≡_};
-ghost use Rattle.session.specs.Settled.{majorIn, settledAt};
+ghost use Rattle.session.specs.Settled.{majorIn, afterAnswer};
 ghost use Rattle.session.specs.Step.{freshSession, stepped, closedOf};
 use machine::next;
+use phase::REFUSED;
 use sedna::Side;
 use sedna::names;
 use sedna_read::Places;
 use sedna_read::Reading;
-use ways::REFUSED;
-use wire::Refusal;
 
 mod client;
 pub mod machine;
@@ -38,8 +37,8 @@ impl Session {
 
 // What a step returns: the record after it, and the message that it accepted or the refusal.
 pub struct Stepped {
-    pub session: Session,
     pub answer: Reading,
+    pub session: Session,
 }
 
 // The major version that a session's parameters name; 0 for any other body.
@@ -52,46 +51,37 @@ fn major(places: Places) -> u8
     }
 }
 
-// A message that was read, judged by the machine: 9 where no conversation goes on with it.
-fn settle(session: Session, instruction: u32, places: Places, count: usize) -> Stepped
-    ensures { λ r. ⌜ r ≡ settledAt session instruction places count ⌝ }
+// The record after an answer: an accepted message leads to the phase `to`.
+pub fn after(session: Session, to: u8, answer: Reading) -> Session
+    ensures { λ r. ⌜ r ≡ afterAnswer session to answer ⌝ }
 {
-    let to = next(session.phase, session.version, instruction);
-    if to == REFUSED {
-        return Stepped {
-            session,
-            answer: Reading::Refused(Refusal::OutOfOrder),
-        };
-    }
-    let mut version = session.version;
-    if instruction == names::SESSION_PARAMETERS {
-        version = major(places);
-    }
-    Stepped {
-        session: Session { phase: to, version },
-        answer: Reading::Message {
+    match answer {
+        Reading::Refused(_) => session,
+        Reading::Message {
             instruction,
             places,
-            count,
-        },
+            ..
+        } => {
+            let mut version = session.version;
+            if instruction == names::SESSION_PARAMETERS {
+                version = major(places);
+            }
+            Session { phase: to, version }
+        }
     }
 }
 
 // Reads the message at the front of `bytes`, which `side` sent, and takes it if a conversation goes
-// on with it. A refused step returns the record as it was.
+// on with it. A refused step returns the record as it was. The move is judged first, by the
+// instruction that stands in front, so that the reading is the answer.
 pub fn step(session: Session, side: Side, bytes: &[u8]) -> Stepped
     ensures { λ r. ⌜ r ≡ stepped session side (now (bytes .entry)) ⌝ }
 {
-    match sedna_read::read(side, bytes) {
-        Reading::Refused(r) => Stepped {
-            session,
-            answer: Reading::Refused(r),
-        },
-        Reading::Message {
-            instruction,
-            places,
-            count,
-        } => settle(session, instruction, places, count),
+    let to = next(session.phase, session.version, wire::get_int(bytes, 0));
+    let answer = sedna_read::read_if(side, bytes, to != REFUSED);
+    Stepped {
+        answer,
+        session: after(session, to, answer),
     }
 }
 

@@ -3,8 +3,8 @@
 ghost use mathlib.Core.Path.{_≡_};
 ghost use Rattle.session.specs.Machine.{next as nextOf};
 use crate::client::client_move;
+use crate::phase::REFUSED;
 use crate::server::server_move;
-use crate::ways::REFUSED;
 use sedna::Found;
 use sedna::Side;
 

@@ -114,10 +114,10 @@ module _ {M : Type 1} (𝓤 : URA M) (H : Heap 𝓤) (A : Atoms 𝓤) (W : Given
   av r = EL.val E.the-type E′.the-laws (r .answer)
 
   is-session : (r : Stepped) (v : Val) → Is P.the-row r (v ∷ []) → Is R (r .session) (sv (r .session))
-  is-session r v is = LL.owed P.the-type P′.the-laws r _ is .0
+  is-session r v is = LL.owed P.the-type P′.the-laws r _ is .1 .0
 
   is-answer : (r : Stepped) (v : Val) → Is P.the-row r (v ∷ []) → Is E.the-row (r .answer) (av r ∷ [])
-  is-answer r v is = LL.owed P.the-type P′.the-laws r _ is .1 .0
+  is-answer r v is = LL.owed P.the-type P′.the-laws r _ is .0
 
   exits : (r : Stepped) (v : Val) → Is P.the-row r (v ∷ []) → r ≡ out → ent 𝓤 (⋆ 𝓤 H A (‵ (fobs γ (R .coded .code (r .session))) ∷ ‵ (fbor κ (Body (mem R) b o γ)) ∷ ‵ (flft κ q) ∷ (‵ (flft κ′ q′) ⊛ ‵ ftrue) ∷ ‵ Slice ∷ [])) (Post (av r))
   exits r v is e =
@@ -147,8 +147,8 @@ module _ {M : Type 1} (𝓤 : URA M) (H : Heap 𝓤) (A : Atoms 𝓤) (W : Given
         -- [the result; the slice's token; what bytes owns; true; the record's cell; what it owned; the open borrow; obs; auth; _5; …; _4; …; _3; …; _2; …; _1; …; room for _0; …]
         land ! (from ! (stop !)) (init ! 11 refl (LL.lawful P.the-type P′.the-laws 𝓤 H A W .typed r _ is .0)) $
         rewrite ! 11 (λ (u : Val). ‵ (fat fullShare P′.mir l₄ 0 u)) (ap only (LL.tells P.the-type P′.the-laws r _ is)) refl $
-        assigns ! (of-opd ! (load ! (from ! (fld ! refl (stop !))) (look-in ! 11 (sub ! 0 refl (whole !))))) (from ! (hop ! (look ! 17 refl) (stop !))) (store-raw ! 4 refl (LL.lawful T.the-type T′.the-laws 𝓤 H A W .typed (r .session) _ (is-session r v is) .0)) $
-        assigns ! (of-opd ! (load ! (from ! (fld ! refl (stop !))) (look-in ! 11 (sub ! 1 refl (whole !))))) (from ! (stop !)) (init ! 19 refl (EL.lawful E.the-type E′.the-laws 𝓤 H A W tt .typed (r .answer) _ (is-answer r v is) .0)) $
+        assigns ! (of-opd ! (load ! (from ! (fld ! refl (stop !))) (look-in ! 11 (sub ! 1 refl (whole !))))) (from ! (hop ! (look ! 17 refl) (stop !))) (store-raw ! 4 refl (LL.lawful T.the-type T′.the-laws 𝓤 H A W .typed (r .session) _ (is-session r v is) .0)) $
+        assigns ! (of-opd ! (load ! (from ! (fld ! refl (stop !))) (look-in ! 11 (sub ! 0 refl (whole !))))) (from ! (stop !)) (init ! 19 refl (EL.lawful E.the-type E′.the-laws 𝓤 H A W tt .typed (r .answer) _ (is-answer r v is) .0)) $
         -- the borrow is closed at the new record
         drop ! $ owned ! R (Is R) (LL.makes T.the-type T′.the-plain 𝓤 H A) (r .session) _ (is-session r v is) $ move ! (4 ∷ 0 ∷ 6 ∷ 7 ∷ 8 ∷ []) $ closes ! tt R (r .session) (sv (r .session)) b o $
         returns ! (look ! 17 refl) $ forget ! 7 refl $ forget ! 9 refl $ forget ! 11 refl $ forget ! 13 refl $ forget ! 15 refl $ forget ! 17 refl $

@@ -1,5 +1,7 @@
-use mathlib.Core.Path.{refl}
+use mathlib.Core.Path.{refl, _∙_}
 use borrow.Author.Tests.{lt-ltb, le-ltb}
+use Rattle.session.specs.Machine.{next}
+use Rattle.sedna_c.proofs.Answers.{step-answer}
 use borrow.Author.Needs.{needs}
 use Rattle.sedna_c.proofs.sessions.kdr_step.Statement.{statement}
 use Rattle.sedna_c.proofs.sessions.kdr_step.Tie as tie
@@ -13,14 +15,14 @@ returns c = rw (lt-ltb _ _ (c .before .if1 .taken)) (c .refusal-code .ensures, r
 record-in-requires : tie.Need-record-in-requires
 record-in-requires c κs = search needs
 
-step-side-requires : tie.Need-step-side-requires
-step-side-requires c κs = search needs
+get-int-requires : tie.Need-get-int-requires
+get-int-requires c κs = search needs
 
-keep-requires : tie.Need-keep-requires
-keep-requires c κs = search needs
+next-requires : tie.Need-next-requires
+next-requires c κs = search needs
 
-reading-code-requires : tie.Need-reading-code-requires
-reading-code-requires c κs = search needs
+take-requires : tie.Need-take-requires
+take-requires c κs = search needs
 
 same-length : tie.Need-same-length
 same-length c = search needs
@@ -29,7 +31,9 @@ same-length-2 : tie.Need-same-length-2
 same-length-2 c = search needs
 
 returns-2 : tie.Need-returns-2
-returns-2 c = rw (le-ltb _ _ (c .before .before .before .before .before .before .before .before .before .before .before .if1 .left), ← c .before .before .before .before .before .before .before .before .before .record-in .ensures, ← c .before .before .before .before .before .before .before .before .step-side .ensures) (c .before .before .reading-code .ensures .0, c .before .before .before .before .before .before .keep .ensures, c .before .before .reading-code .ensures .1)
+returns-2 c =
+    let e = c .before .before .before .before .before .before .before .next .ensures ∙ (λ i. next (c .before .before .before .before .before .before .before .before .before .record-in .ensures i .phase) (c .before .before .before .before .before .before .before .before .before .record-in .ensures i .version) (c .before .before .before .before .before .before .before .before .get-int .ensures .0 i)) in
+    rw (le-ltb _ _ (c .before .before .before .before .before .before .before .before .before .before .before .if1 .left), ← step-answer _ _ _ _ e) (c .before .before .before .before .take .ensures)
 
 pub kdr-step-spec : {M : Type 1} → statement M
 kdr-step-spec =
@@ -38,9 +42,9 @@ kdr-step-spec =
     refusal-code-requires
     returns
     record-in-requires
-    step-side-requires
-    keep-requires
-    reading-code-requires
+    get-int-requires
+    next-requires
+    take-requires
     same-length
     same-length-2
     returns-2)
