@@ -1,5 +1,6 @@
 pub mod Claim
 pub mod Demand1
 pub mod Demand2
+pub mod Demand2Parts
 pub mod Demand3
 pub mod Examples

@@ -1,0 +1,6 @@
+pub mod Cuttings
+pub mod Order
+pub mod Readings
+pub mod Refusals
+pub mod Runs
+pub mod Steps

@@ -1,0 +1,64 @@
+use borrow.Author.Needs.{needs}
+use Rattle.assembly.proofs.body.text_in.Statement.{statement}
+use Rattle.assembly.proofs.body.text_in.Tie as tie
+
+enum-told : tie.Need-enum-told
+enum-told c = search needs
+
+enum-told-2 : tie.Need-enum-told-2
+enum-told-2 c = search needs
+
+enum-known-places : tie.Need-enum-known-places
+enum-known-places c = search needs
+
+enum-known-places-2 : tie.Need-enum-known-places-2
+enum-known-places-2 c = search needs
+
+enum-told-3 : tie.Need-enum-told-3
+enum-told-3 c = search needs
+
+enum-told-4 : tie.Need-enum-told-4
+enum-told-4 c = search needs
+
+enum-known-places-3 : tie.Need-enum-known-places-3
+enum-known-places-3 c = search needs
+
+returns : tie.Need-returns
+returns c = λ s. simp (c .enum-told .given .1)
+
+returns-2 : tie.Need-returns-2
+returns-2 c = λ s. simp (c .enum-told2 .given .1)
+
+returns-3 : tie.Need-returns-3
+returns-3 c = λ s. simp (c .before .places .given .1)
+
+returns-4 : tie.Need-returns-4
+returns-4 c = λ s. simp (c .before .places2 .given .1)
+
+returns-5 : tie.Need-returns-5
+returns-5 c = λ s. simp (c .enum-told3 .given .1)
+
+returns-6 : tie.Need-returns-6
+returns-6 c = λ s. simp (c .enum-told4 .given .1)
+
+returns-7 : tie.Need-returns-7
+returns-7 c = λ s. simp (c .before .places3 .given .1)
+
+pub text-in-spec : {M : Type 1} → statement M
+text-in-spec =
+    tie.close
+    (tie.spec
+    enum-told
+    enum-told-2
+    enum-known-places
+    enum-known-places-2
+    enum-told-3
+    enum-told-4
+    enum-known-places-3
+    returns
+    returns-2
+    returns-3
+    returns-4
+    returns-5
+    returns-6
+    returns-7)

@@ -1,0 +1,16 @@
+use borrow.Author.Needs.{needs}
+use borrow.Author.Tests.{eq-eqb, ne-eqb}
+use Rattle.assembly.proofs.roles.item_end.Statement.{statement}
+use Rattle.assembly.proofs.roles.item_end.Tie as tie
+
+returns : tie.Need-returns
+returns c = search (needs, eq-eqb)
+
+returns-2 : tie.Need-returns-2
+returns-2 c = search (needs, eq-eqb, ne-eqb)
+
+returns-3 : tie.Need-returns-3
+returns-3 c = search (needs, ne-eqb)
+
+pub item-end-spec : {M : Type 1} → statement M
+item-end-spec = tie.close (tie.spec returns returns-2 returns-3)

@@ -1,0 +1,6 @@
+pub mod Answers
+pub mod Calls
+pub mod Cuttings
+pub mod Joining
+pub mod Refusals
+pub mod Roles

@@ -1,0 +1,18 @@
+-- What a refusal leaves.
+use mathlib.Core.List.{List}
+use mathlib.Core.Logic.{_⊎_}
+use mathlib.Core.Path.{_≡_}
+use Prim.Native.Nat.{ℕ}
+use lib.ListN.{length}
+use Rattle.sedna.specs.Message.{Message}
+use Rattle.assembly.specs.declared.Assembly.{Assembly}
+use Rattle.assembly.specs.Joining.{marked, joined, stored}
+
+-- the call that joined m to a, with a buffer d, was refused with n
+pub record RefusalLeaves (a : Assembly) (d : List ℕ) (m : Message) (n : ℕ) : Type 0 where
+  -- "When joining: 8, 9, 12."
+  pub listed : (n ≡ 8) ⊎ (n ≡ 9) ⊎ (n ≡ 12)
+  -- "A refusal returns its number alone ...; buffers and session record stay unchanged."
+  pub buffer : stored a d m ≡ d
+  -- "Only a gathering that met 12 is marked spoilt."
+  pub assembly : (joined a (length d) m .assembly ≡ a) ⊎ (n ≡ 12) × (joined a (length d) m .assembly ≡ marked a)
