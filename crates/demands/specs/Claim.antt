@@ -16,7 +16,7 @@ use Rattle.grammar.specs.Conversation.{Whole, Begins}
 pub data Form : Type 0 where
   by-value lent : Form
 
--- "What is offered to a step is a side and bytes"; each offer goes to one form of the step
+-- "What is offered to a step is a side and bytes"; each offer goes to one form of the step. That they are bytes is so of every slice
 pub record Offer : Type 0 where
   pub form : Form
   pub side : Side
