@@ -1,0 +1,4 @@
+pub mod Steps
+pub mod Scans
+pub mod Runs
+pub mod Laws

@@ -1,0 +1,77 @@
+-- One byte of a text: what it adds to the string, and the stores that write it.
+use mathlib.Core.Path.{_≡_, refl, subst, sym, ap, _∙_}
+use mathlib.Core.List.{List, [], _∷_, _++_}
+use mathlib.Core.Bool.{Bool, true, false}
+use Prim.Native.Nat.{ℕ, suc, _+_, _≤_, _<_}
+use native.Mathlib.Numerals.{add-one}
+use native.Mathlib.Omega.{arith}
+use lib.ListN.{length, drop, getD, set, drop-of-length-le}
+use lib.Seq.{drop-cons}
+use borrow.Author.Tests.{lt-ltb, le-ltb}
+use Rattle.wire.specs.Bytes.{if, over, placed}
+use Rattle.wire.specs.declared.Refusal.the-variants.{NoRoom}
+use Rattle.wire.proofs.Over.{Ahead, start, step, over-none, over-sets, placed-fits}
+use Rattle.basex_string.specs.Strings.{special, string}
+use Rattle.basex_string.specs.Answers.{specials, spelling}
+use Rattle.basex_string.specs.declared.Spelled.the-variants as spelled
+
+pub here : (s : List ℕ) (i : ℕ) → i < length s → drop i s ≡ getD s i 0 ∷ drop (i + 1) s
+here s i h = drop-cons s i 0 h ∙ ap (λ (n : ℕ). getD s i 0 ∷ drop n s) (sym (add-one i))
+
+-- how many bytes a string has: "FF before each 00 and FF, then 00"
+pub string-length : (s : List ℕ) → length (string s) ≡ length s + specials s + 1
+unfolding string specials
+string-length [] = refl
+string-length (b ∷ s) = by (special b) (string-length s)
+  where
+    by : (t : Bool) → length (string s) ≡ length s + specials s + 1 → length (if t (255 ∷ b ∷ string s) (b ∷ string s)) ≡ length (b ∷ s) + if t (suc (specials s)) (specials s) + 1
+    by true e = omega arith
+    by false e = omega arith
+
+pub specials-end : (s : List ℕ) (i : ℕ) → length s ≤ i → specials (drop i s) ≡ 0
+unfolding specials
+specials-end s i h = ap specials (drop-of-length-le s h)
+
+pub string-end : (s : List ℕ) (i : ℕ) → length s ≤ i → string (drop i s) ≡ 0 ∷ []
+unfolding string
+string-end s i h = ap string (drop-of-length-le s h)
+
+module _ (s : List ℕ) (i : ℕ) (h : i < length s) where
+  pub specials-special : special (getD s i 0) ≡ true → specials (drop i s) ≡ specials (drop (i + 1) s) + 1
+  unfolding specials
+  specials-special e = ap specials (here s i h) ∙ rw e (omega arith)
+
+  pub string-special : special (getD s i 0) ≡ true → string (drop i s) ≡ 255 ∷ getD s i 0 ∷ string (drop (i + 1) s)
+  unfolding string
+  string-special e = ap string (here s i h) ∙ rw e
+
+pub put-one : (d : List ℕ) (at x : ℕ) → at + 1 ≤ length d → set d at x ≡ placed d at (x ∷ [])
+put-one d at x h = over-sets d at (x ∷ []) h ∙ sym (placed-fits d at (x ∷ []) h)
+
+pub put-two : (d : List ℕ) (at x y : ℕ) → at + 2 ≤ length d → set (set d at x) (at + 1) y ≡ placed d at (x ∷ y ∷ [])
+put-two d at x y h = ap (λ (n : ℕ). set (set d at x) n y) (add-one at) ∙ over-sets d at (x ∷ y ∷ []) h ∙ sym (placed-fits d at (x ∷ y ∷ []) h)
+
+-- what writing answers
+module _ (room at : ℕ) (s : List ℕ) where
+  pub spelling-fits : (n : ℕ) → n ≡ length (string s) → at + n ≤ room → spelled.Bytes n ≡ spelling room at s
+  spelling-fits n e h = rw (le-ltb room (at + length (string s)) (omega arith)) (ap spelled.Bytes e)
+
+  pub spelling-not : room < at + length (string s) → spelled.Refused NoRoom ≡ spelling room at s
+  spelling-not h = rw (lt-ltb room (at + length (string s)) h)
+
+-- the loop of `store_text`: n bytes stand from `to` on, and `rest` is ahead
+pub ahead-from : (d : List ℕ) (to : ℕ) (s : List ℕ) → to + length s ≤ length d → Ahead (over d to s) d (to + 0) s
+ahead-from d to s h = let e : to + 0 ≡ to = omega arith in rw e (start d to s h)
+
+pub ahead-one : {t d : List ℕ} (to n : ℕ) {x : ℕ} {text rest : List ℕ} → text ≡ x ∷ rest → Ahead t d (to + n) text → Ahead t (set d (to + n) x) (to + (n + 1)) rest
+ahead-one {t} {d} to n {x} {text} {rest} e a =
+    let b : Ahead t d (to + n) ((x ∷ []) ++ rest) = subst (Ahead t d (to + n)) e a in
+    step (x ∷ []) (to + (n + 1)) b (put-one d (to + n) x (omega arith)) (omega arith)
+
+pub ahead-none : {t d : List ℕ} {at : ℕ} {rest : List ℕ} → Ahead t d at rest → length rest ≡ 0 → d ≡ t
+ahead-none {rest = []} a e = sym (over-none _ _) ∙ a .makes
+ahead-none {rest = x ∷ rest} a e = absurd (omega arith)
+
+-- a run of what is ahead was written, up to k
+pub ahead-run : {t d e text rest : List ℕ} {at : ℕ} (r : List ℕ) → text ≡ r ++ rest → (k : ℕ) → Ahead t d at text → e ≡ placed d at r → k ≡ at + length r → Ahead t e k rest
+ahead-run {t} {d} {e} {text} {rest} {at} r q k a p z = step r k (subst (Ahead t d at) q a) p z

@@ -1,0 +1,20 @@
+use native.Mathlib.Omega.{arith}
+use borrow.Author.Needs.{needs}
+use Rattle.basex_string.proofs.Steps.{string-length}
+use Rattle.basex_string.proofs.encoded_len.Statement.{statement}
+use Rattle.basex_string.proofs.encoded_len.Tie as tie
+
+count-specials-requires : tie.Need-count-specials-requires
+count-specials-requires c κs = search needs
+
+add-result : tie.Need-add-result
+add-result c = search needs
+
+add-result-2 : tie.Need-add-result-2
+add-result-2 c = search needs
+
+returns : tie.Need-returns
+returns c = omega (arith, string-length (c .before .before .args .text .now))
+
+pub encoded-len-spec : {M : Type 1} → statement M
+encoded-len-spec = tie.close (tie.spec count-specials-requires add-result add-result-2 returns)
