@@ -5,6 +5,7 @@ use crate::text::behind;
 use crate::text::front;
 use crate::text::number;
 use crate::text::refused;
+use crate::text::same;
 use crate::text::say;
 use crate::text::say_answer;
 use crate::text::say_refusal;
@@ -120,12 +121,12 @@ fn cutting(open: Assembly, cut: Cut, pattern: &[u8], words: &[u8]) {
 // The words are TYPE URL LENGTH ROOM.
 fn typed(open: Assembly, class: u8, pattern: &[u8], words: &[u8]) {
     let kind = value(front(words, b' '), 255);
-    let rest = behind(words, b' ');
-    let url = number(front(rest, b' '), 32769);
-    let rest = behind(rest, b' ');
-    if MOST < url {
+    let url = behind(words, b' ');
+    let rest = behind(url, b' ');
+    if same(front(url, b' '), b"-") {
         cutting(open, Cut::Typed { class, kind }, pattern, rest);
     } else {
+        let url = number(front(url, b' '), 32769);
         cutting(open, Cut::WithUrl { class, kind, url }, pattern, rest);
     }
 }

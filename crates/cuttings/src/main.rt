@@ -5,13 +5,13 @@
 // cuts a text of LENGTH bytes and joins it in a buffer of ROOM bytes. URL is its length, or - for
 // none. Printed are the count of the parts; each part as INSTRUCTION:BODYLENGTH, read back from what
 // was written, with the answer of its join; the refusal of the part one beyond the last; and for an
-// item its end.
+// item the answer to its end.
 //     join OPENING ROOM M M ..
 // joins messages as they are told. OPENING is statement, item, typed or none; so may M be, and opens
 // anew, or it is INSTRUCTION:LENGTH:VALUE:VALUE. The values are a format, a class and a type, or a
-// version; left out they are 0, 1 and 24, and 4 and 0. More than a byte counts as 255.
-// A join is answered by ok, !REFUSAL, or =LENGTH,VALUE.. for what is handed over, with same or other
-// for whether it is the text. Lengths and rooms go up to 32,768; ? stands behind what is not
+// version; left out they are 0, 1 and 24, or 4 and 0. What is no byte counts as 255.
+// A join is answered by ok, !REFUSAL, or =LENGTH,VALUE,VALUE for what is handed over, with same or
+// other for whether it is the text. Lengths and rooms go up to 32,768; ? stands behind what is not
 // understood. An empty line and one that starts with # are printed as they are.
 mod cut;
 mod join;
