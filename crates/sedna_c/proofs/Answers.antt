@@ -18,8 +18,8 @@ use Rattle.session.specs.Machine.{next}
 use Rattle.session.specs.Settled.{afterAnswer}
 use Rattle.session.specs.Step.{stepped}
 use Rattle.session.proofs.Steps.{put-together}
-use Rattle.sedna_c.specs.declared.sessions.Sender.{Sender}
-use Rattle.sedna_c.specs.declared.sessions.Sender.the-variants as sender
+use Rattle.sedna_c.specs.declared.sides.Sender.{Sender}
+use Rattle.sedna_c.specs.declared.sides.Sender.the-variants as sender
 use Rattle.sedna_c.specs.Codes.{sideReading}
 use Rattle.sedna_c.specs.Sessions.{senderOf, answerOf, sideStepped}
 

@@ -16,8 +16,8 @@ use Rattle.session.specs.declared.Stepped.{Stepped}
 use Rattle.session.specs.Machine.{refused}
 use Rattle.session.specs.Settled.{afterAnswer}
 use Rattle.session.specs.Step.{freshSession, stepped, closedOf}
-use Rattle.sedna_c.specs.declared.sessions.Sender.{Sender}
-use Rattle.sedna_c.specs.declared.sessions.Sender.the-variants as sender
+use Rattle.sedna_c.specs.declared.sides.Sender.{Sender}
+use Rattle.sedna_c.specs.declared.sides.Sender.the-variants as sender
 use Rattle.sedna_c.specs.Codes.{refusalCode, readCode, fieldsLeft}
 
 -- the record in the first two bytes: phase, version

@@ -19,14 +19,15 @@ use wire::Place;
 use wire::Refusal;
 
 mod sessions;
+pub mod sides;
 
-fn refusal_code(r: Refusal) -> u64
+pub fn refusal_code(r: Refusal) -> u64
     ensures { λ n. ⌜ n ≡ refusalCode r ⌝ }
 {
     4294967296 + (wire::number(r) as u64)
 }
 
-fn written_code(w: Written) -> u64
+pub fn written_code(w: Written) -> u64
     ensures { λ n. ⌜ n ≡ writtenCode w ⌝ }
 {
     match w {

@@ -6,8 +6,9 @@ ghost use lib.ListN.{length};
 ghost use Rattle.sedna_c.specs.Codes.{readCode, fieldsLeft};
 ghost use Rattle.sedna_c.specs.Sessions.{recordIn, recordPut, freshCode, freshLeft, senderOf, answerOf, ledTo, stepCode, stepFields, stepLeft, closedCode};
 use crate::refusal_code;
+use crate::sides::Sender;
+use crate::sides::sender_of;
 use crate::store_places;
-use sedna::Side;
 use sedna_read::Reading;
 use session::Session;
 use session::machine::next;
@@ -66,24 +67,6 @@ fn answer_code(answer: Reading, to: u8, session: &mut [u8], fields: &mut [u64]) 
             count as u64
         }
     }
-}
-
-// Who sent a message: side 1 is the client, 2 the server.
-pub enum Sender {
-    Is(Side),
-    Nobody,
-}
-
-fn sender_of(side: u8) -> Sender
-    ensures { λ r. ⌜ r ≡ senderOf side ⌝ }
-{
-    if side == 1 {
-        return Sender::Is(Side::Client);
-    }
-    if side == 2 {
-        return Sender::Is(Side::Server);
-    }
-    Sender::Nobody
 }
 
 // Reads a message for both exports, and judges 9 where it leads to no phase. The one call of the

@@ -1,6 +1,6 @@
 use borrow.Author.Tests.{eq-eqb, ne-eqb}
-use Rattle.sedna_c.proofs.sessions.sender_of.Statement.{statement}
-use Rattle.sedna_c.proofs.sessions.sender_of.Tie as tie
+use Rattle.sedna_c.proofs.sides.sender_of.Statement.{statement}
+use Rattle.sedna_c.proofs.sides.sender_of.Tie as tie
 
 returns : tie.Need-returns
 returns c = simp (eq-eqb _ _ (c .if1 .taken))
