@@ -1,14 +1,16 @@
-//! Names the archive to the linker, for the program alone: `SEDNA_C`, or where
-//! `rt staticlib sedna_c` puts it.
+//! Names the archives to the linker, for the program alone: `SEDNA_C` and `PARTS_C`, or where
+//! `rt staticlib` puts them.
 
 use std::env;
 use std::path::PathBuf;
 
 fn main() {
-    let named = env::var_os("SEDNA_C").map(PathBuf::from);
     let here = PathBuf::from(env::var_os("CARGO_MANIFEST_DIR").expect("cargo sets it"));
-    let archive = named.unwrap_or_else(|| here.join("../target/staticlib/libsedna_c.a"));
-    println!("cargo:rerun-if-env-changed=SEDNA_C");
-    println!("cargo:rerun-if-changed={}", archive.display());
-    println!("cargo:rustc-link-arg-bins={}", archive.display());
+    for (variable, file) in [("SEDNA_C", "libsedna_c.a"), ("PARTS_C", "libparts_c.a")] {
+        let named = env::var_os(variable).map(PathBuf::from);
+        let archive = named.unwrap_or_else(|| here.join("../target/staticlib").join(file));
+        println!("cargo:rerun-if-env-changed={variable}");
+        println!("cargo:rerun-if-changed={}", archive.display());
+        println!("cargo:rustc-link-arg-bins={}", archive.display());
+    }
 }

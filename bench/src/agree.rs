@@ -1,6 +1,8 @@
 //! Both implementations on the same inputs: every answer and every byte of
 //! lent memory has to be the same.
 
+mod cutting;
+mod joining;
 mod reading;
 mod stepping;
 mod tally;
@@ -31,6 +33,8 @@ pub fn run() -> Result<Tally, Disagreement> {
         outputs.compare(request.instruction, &value, request.room, &mut tally)?;
     }
     stepping::compare(&mut tally)?;
+    cutting::compare(&mut tally)?;
+    joining::compare(&mut tally)?;
     tally.complete()?;
     Ok(tally)
 }

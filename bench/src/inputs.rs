@@ -2,8 +2,10 @@
 //! Nothing here uses the plain reader or writer: a message is put together by
 //! an encoder of its own. The plain session only tells which may come next.
 
+mod cuts;
 mod damage;
 mod day;
+mod gatherings;
 mod requests;
 mod rng;
 mod sets;
@@ -17,9 +19,11 @@ use damage::damage;
 use rng::Rng;
 use valid::{body_length, sample};
 
+pub use cuts::{beyond, cuts, lengths, Cut};
 pub use day::day;
+pub use gatherings::{gatherings, Offered};
 pub use requests::{requests, Request};
-pub use sets::{full, shuffled, small};
+pub use sets::{big_text, full, shuffled, small};
 pub use walks::conversations;
 pub use ways::{each_message, ways};
 

@@ -1,5 +1,7 @@
 //! The library behind its C functions. A slice passes as pointer and length.
 
+pub mod parts;
+
 use bench::plain::Value;
 
 /// How many numbers a message that was read fills.

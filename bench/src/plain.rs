@@ -1,6 +1,8 @@
-//! Sedna messages and sessions in plain, safe Rust, written from document 01 and from
-//! nothing of the library: the other side of every comparison.
+//! Sedna messages, sessions, cutting and joining in plain, safe Rust, written from document 01
+//! and from nothing of the library: the other side of every comparison.
 
+mod cut;
+mod gather;
 pub mod instruction;
 mod read;
 mod session;
@@ -8,6 +10,11 @@ mod session;
 mod tests;
 mod write;
 
+pub use cut::{
+    item_parts, statement_parts, typed_item_parts, write_item_part, write_statement_part,
+    write_typed_item_part,
+};
+pub use gather::{Gathered, Gathering, What};
 pub use read::read;
 pub use session::{Answer, Phase, Session};
 pub use write::{
@@ -20,7 +27,7 @@ pub const BODY_MAX: usize = 10_240;
 /// Instruction and body length.
 pub const HEAD: usize = 8;
 
-/// Document 01's refusal numbers, as far as messages and sessions have them.
+/// Document 01's refusal numbers, as far as Sedna's messages have them.
 pub mod refusal {
     pub const MORE_NEEDED: u8 = 1;
     pub const UNKNOWN: u8 = 2;
@@ -33,6 +40,8 @@ pub mod refusal {
     pub const OUT_OF_ORDER: u8 = 9;
     pub const NO_ROOM: u8 = 10;
     pub const NO_ENCODING: u8 = 11;
+    pub const BUFFER_OVERRUN: u8 = 12;
+    pub const NO_SUCH_PART: u8 = 14;
 }
 
 /// The sender of a message, numbered as in a transcript record.

@@ -1,11 +1,14 @@
 //! How fast the two are, as ratios that were taken in one run.
 
+mod parts;
 mod reading;
 mod rounds;
 mod stepping;
 mod writing;
 
 use bench::inputs::{day, full, shuffled, small, Input};
+use bench::plain::What;
+use parts::Work;
 
 /// Calls in one pass over a set.
 const CALLS: usize = 6_000;
@@ -26,6 +29,8 @@ pub fn run() {
     row("SetOptions, 10,248 bytes", &full(530));
     println!();
     steps(&day());
+    println!();
+    cuts();
 }
 
 fn row(name: &str, set: &[Input]) {
@@ -52,4 +57,21 @@ fn steps(day: &[Input]) {
     println!("{:<34}{a:<22.1}{b:.1}", "plain");
     let [a, b] = [called.second, inlined.second].map(millions);
     println!("{:<34}{a:<22.1}{b:.1}", "library");
+}
+
+fn cuts() {
+    println!("time of a copy in one piece, and of the plain code, over library time:");
+    println!("{:<34}{:<11}{:<11}inlined", "1,000,000 bytes", "copy", "called");
+    let works = [What::Statement, What::Item, What::TypedItem].map(Work::new);
+    let names = ["a statement", "an item up to 3.0", "an item of 4.0"];
+    for (name, work) in names.iter().zip(&works) {
+        ratios(&format!("cutting {name}"), work.cutting());
+    }
+    for (name, work) in names.iter().zip(&works) {
+        ratios(&format!("joining {name}"), work.joining());
+    }
+}
+
+fn ratios(name: &str, [copy, called, inlined]: parts::Ratios) {
+    println!("{name:<34}{copy:<11.2}{called:<11.2}{inlined:.2}");
 }

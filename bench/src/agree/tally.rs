@@ -5,10 +5,12 @@ use bench::inputs::MESSAGES;
 use std::collections::BTreeMap;
 use std::fmt;
 
-/// The refusals that reading, writing and stepping can give.
+/// The refusals that reading, writing, stepping, cutting and joining can give.
 const READING: [u8; 8] = [1, 2, 3, 4, 5, 6, 7, 8];
 const WRITING: [u8; 4] = [2, 8, 10, 11];
 const STEPPING: [u8; 9] = [1, 2, 3, 4, 5, 6, 7, 8, 9];
+const CUTTING: [u8; 4] = [8, 10, 11, 14];
+const JOINING: [u8; 10] = [1, 2, 3, 4, 5, 6, 7, 8, 9, 12];
 
 #[derive(Default)]
 pub struct Tally {
@@ -22,6 +24,13 @@ pub struct Tally {
     stepped: BTreeMap<u32, usize>,
     step_refused: BTreeMap<u8, usize>,
     sessions: usize,
+    cut: usize,
+    cut_refused: BTreeMap<u8, usize>,
+    /// Accepted parts and ends, and how many of them finished a gathering.
+    joined: usize,
+    finished: usize,
+    join_refused: BTreeMap<u8, usize>,
+    gatherings: usize,
 }
 
 impl Tally {
@@ -50,6 +59,25 @@ impl Tally {
         }
     }
 
+    pub fn cut(&mut self, answer: Result<usize, u8>) {
+        match answer {
+            Ok(_) => self.cut += 1,
+            Err(number) => *self.cut_refused.entry(number).or_default() += 1,
+        }
+    }
+
+    pub fn gathering(&mut self) {
+        self.gatherings += 1;
+    }
+
+    pub fn join(&mut self, answer: Result<usize, u8>, finished: bool) {
+        self.finished += usize::from(finished);
+        match answer {
+            Ok(_) => self.joined += 1,
+            Err(number) => *self.join_refused.entry(number).or_default() += 1,
+        }
+    }
+
     /// Every message accepted and every refusal met, or the comparison says less
     /// than it seems to.
     pub fn complete(&self) -> Result<(), Disagreement> {
@@ -58,7 +86,9 @@ impl Tally {
         let writing = WRITING.iter().all(|n| self.write_refused.contains_key(n));
         let steps = MESSAGES.iter().all(|m| self.stepped.contains_key(&m.0));
         let stepping = STEPPING.iter().all(|n| self.step_refused.contains_key(n));
-        if messages && reading && writing && steps && stepping {
+        let cutting = CUTTING.iter().all(|n| self.cut_refused.contains_key(n));
+        let joining = JOINING.iter().all(|n| self.join_refused.contains_key(n));
+        if messages && reading && writing && steps && stepping && cutting && joining {
             Ok(())
         } else {
             Err(format!("a message or a refusal was never met\n{self}"))
@@ -74,6 +104,19 @@ impl Tally {
             "  stepping: {accepted} accepted ({} instructions), refused {:?}",
             self.stepped.len(),
             self.step_refused
+        )
+    }
+
+    fn show_parts(&self, f: &mut fmt::Formatter) -> fmt::Result {
+        let cut_refused: usize = self.cut_refused.values().sum();
+        let join_refused: usize = self.join_refused.values().sum();
+        let (cut, joined) = (self.cut + cut_refused, self.joined + join_refused);
+        writeln!(f, "agree: {cut} parts cut, {joined} messages to {} gatherings", self.gatherings)?;
+        writeln!(f, "  cutting: {} accepted, refused {:?}", self.cut, self.cut_refused)?;
+        write!(
+            f,
+            "  joining: {} accepted ({} finished), refused {:?}",
+            self.joined, self.finished, self.join_refused
         )
     }
 }
@@ -92,6 +135,8 @@ impl fmt::Display for Tally {
             self.read_refused
         )?;
         writeln!(f, "  writing: {} accepted, refused {:?}", self.written, self.write_refused)?;
-        self.show_steps(f)
+        self.show_steps(f)?;
+        writeln!(f)?;
+        self.show_parts(f)
     }
 }

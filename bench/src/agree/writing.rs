@@ -28,32 +28,45 @@ impl Outputs {
         room: usize,
         tally: &mut Tally,
     ) -> Result<(), Disagreement> {
+        let answer = self.call(
+            room,
+            |out| plain::write(out, instruction, value),
+            |out| library::write(out, instruction, value),
+            || format!("writing {instruction}: {}", show(value)),
+        )?;
+        tally.write(answer);
+        Ok(())
+    }
+
+    /// A call of both writers, whatever they write; the answer is that of both.
+    pub fn call(
+        &mut self,
+        room: usize,
+        plain: impl FnOnce(&mut [u8]) -> Result<usize, u8>,
+        library: impl FnOnce(&mut [u8]) -> Result<usize, u8>,
+        what: impl Fn() -> String,
+    ) -> Result<Result<usize, u8>, Disagreement> {
         fill(&mut self.plain, room + GUARD);
         fill(&mut self.library, room + GUARD);
-        let plain = plain::write(&mut self.plain[..room], instruction, value);
-        let library = library::write(&mut self.library[..room], instruction, value);
+        let plain = plain(&mut self.plain[..room]);
+        let library = library(&mut self.library[..room]);
         if plain != library || self.plain != self.library {
             return Err(format!(
-                "writing {instruction} into {room} bytes\n\
-                 plain:   {plain:?} {}\nlibrary: {library:?} {}\nvalue: {}",
+                "into {room} bytes, {}\nplain:   {plain:?} {}\nlibrary: {library:?} {}",
+                what(),
                 hex(&self.plain),
-                hex(&self.library),
-                show(value)
+                hex(&self.library)
             ));
         }
         let written = plain.unwrap_or(0);
-        if let Some(at) = (written..room + GUARD).find(|&at| self.plain[at] != pattern(at)) {
-            return Err(format!(
-                "writing {instruction} into {room} bytes: byte {at} changed\nvalue: {}",
-                show(value)
-            ));
+        match (written..room + GUARD).find(|&at| self.plain[at] != pattern(at)) {
+            Some(at) => Err(format!("byte {at} changed, into {room} bytes, {}", what())),
+            None => Ok(plain),
         }
-        tally.write(plain);
-        Ok(())
     }
 }
 
-fn pattern(at: usize) -> u8 {
+pub fn pattern(at: usize) -> u8 {
     (at * 31 + 7) as u8
 }
 

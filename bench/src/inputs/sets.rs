@@ -58,6 +58,11 @@ pub fn full(instruction: u32) -> Vec<Input> {
         .collect()
 }
 
+/// A text that takes about a hundred messages.
+pub fn big_text() -> Vec<u8> {
+    Rng::new(14).bytes(1_000_000)
+}
+
 /// `calls` places in a list of `count`, each as often as the others, in an
 /// order that no branch predictor knows by heart.
 pub fn shuffled(count: usize, calls: usize) -> Vec<usize> {

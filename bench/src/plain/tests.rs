@@ -1,5 +1,7 @@
 //! The worked examples of document 01, and the places of it that are easily got wrong.
 
+mod cutting;
+mod joining;
 mod reading;
 mod writing;
 

@@ -10,7 +10,7 @@ ghost use Rattle.sedna.specs.Message.{Url, Body};
 ghost use Rattle.sedna_read.specs.Places.{optionAt};
 ghost use Rattle.sedna_write.specs.Pairs.{given, pairsOf};
 ghost use Rattle.sedna_write.specs.Writing.{judgement, message, written, left};
-ghost use Rattle.sedna_c.specs.Codes.{refusalCode, writtenCode, fieldList, fieldsOf, sideReading, readCode, fieldsLeft, optionCode, optionLeft};
+ghost use Rattle.sedna_c.specs.Codes.{refusalCode, writtenCode, fieldList, fieldsOf, optionCode, optionLeft};
 use sedna_read::OptionPlace;
 use sedna_read::Places;
 use sedna_read::UrlPlace;
@@ -116,16 +116,6 @@ fn store_places(fields: &mut [u64], instruction: u32, places: Places)
             part,
         } => store_item(fields, instruction, class, kind, url, part),
     }
-}
-
-// Reads the message at the front of bytes: side 1 is the client, 2 the server. The fields are
-// instruction, shape, two numbers, two places, a count and whether there is a URL; see fieldsOf.
-#[no_mangle]
-pub extern "C" fn kdr_read(side: u8, bytes: &[u8], fields: &mut [u64]) -> u64
-    ensures { λ r. ⌜ (r ≡ readCode (sideReading side (now (bytes .entry))) (length (now (fields .entry)))) × (now (fields .exit) ≡ fieldsLeft (sideReading side (now (bytes .entry))) (now (fields .entry))) ⌝ }
-{
-    let mut no_session = [0u8; 2];
-    sessions::take(side, bytes, 0, &mut no_session, fields)
 }
 
 // The option number k among the pairs from start on: its id and its value's place.

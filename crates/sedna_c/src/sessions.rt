@@ -1,9 +1,9 @@
-// The session: the caller keeps its record in two bytes, phase and version, and lends them. A step
-// that is refused, or whose fields have no room, changes nothing.
+// Reading, and the session: the caller keeps its record in two bytes, phase and version, and lends
+// them. A step that is refused, or whose fields have no room, changes nothing.
 ghost use mathlib.Core.Path.{_≡_};
 ghost use Prim.Native.Nat.{_≤_};
 ghost use lib.ListN.{length};
-ghost use Rattle.sedna_c.specs.Codes.{readCode, fieldsLeft};
+ghost use Rattle.sedna_c.specs.Codes.{readCode, fieldsLeft, sideReading};
 ghost use Rattle.sedna_c.specs.Sessions.{recordIn, recordPut, freshCode, freshLeft, senderOf, answerOf, ledTo, stepCode, stepFields, stepLeft, closedCode};
 use crate::refusal_code;
 use crate::sides::Sender;
@@ -71,7 +71,7 @@ fn answer_code(answer: Reading, to: u8, session: &mut [u8], fields: &mut [u64]) 
 
 // Reads a message for both exports, and judges 9 where it leads to no phase. The one call of the
 // reader: the compiler then makes one function of the two, and no message is put together in memory.
-pub fn take(side: u8, bytes: &[u8], to: u8, session: &mut [u8], fields: &mut [u64]) -> u64
+fn take(side: u8, bytes: &[u8], to: u8, session: &mut [u8], fields: &mut [u64]) -> u64
     requires { ⌜ 2 ≤ length (now session) ⌝ }
     ensures { λ r. ⌜ (r ≡ readCode (answerOf (senderOf side) to (now (bytes .entry))) (length (now (fields .entry)))) × (now (session .exit) ≡ ledTo to (answerOf (senderOf side) to (now (bytes .entry))) (length (now (fields .entry))) (now (session .entry))) × (now (fields .exit) ≡ fieldsLeft (answerOf (senderOf side) to (now (bytes .entry))) (now (fields .entry))) ⌝ }
 {
@@ -82,6 +82,16 @@ pub fn take(side: u8, bytes: &[u8], to: u8, session: &mut [u8], fields: &mut [u6
             answer_code(answer, to, session, fields)
         }
     }
+}
+
+// Reads the message at the front of bytes: side 1 is the client, 2 the server. The fields are
+// instruction, shape, two numbers, two places, a count and whether there is a URL; see fieldsOf.
+#[no_mangle]
+pub extern "C" fn kdr_read(side: u8, bytes: &[u8], fields: &mut [u64]) -> u64
+    ensures { λ r. ⌜ (r ≡ readCode (sideReading side (now (bytes .entry))) (length (now (fields .entry)))) × (now (fields .exit) ≡ fieldsLeft (sideReading side (now (bytes .entry))) (now (fields .entry))) ⌝ }
+{
+    let mut no_session = [0u8; 2];
+    take(side, bytes, 0, &mut no_session, fields)
 }
 
 // The step on the record in the first two bytes, with the message at the front of bytes, which side

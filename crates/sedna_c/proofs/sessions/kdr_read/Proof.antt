@@ -1,7 +1,7 @@
 use Rattle.sedna_c.proofs.Answers.{read-answer}
 use borrow.Author.Needs.{needs}
-use Rattle.sedna_c.proofs.kdr_read.Statement.{statement}
-use Rattle.sedna_c.proofs.kdr_read.Tie as tie
+use Rattle.sedna_c.proofs.sessions.kdr_read.Statement.{statement}
+use Rattle.sedna_c.proofs.sessions.kdr_read.Tie as tie
 
 slice-aggregate-take : tie.Need-slice-aggregate-take
 slice-aggregate-take c = search needs
