@@ -25,7 +25,7 @@ pub mod field {
 }
 
 /// A refusal is told as this with its number on top.
-const REFUSED: u64 = 1 << 32;
+const REFUSED: u64 = 1 << 63;
 
 #[rustfmt::skip]
 extern "C" {

@@ -4,7 +4,7 @@ use mathlib.Core.Path.{_≡_, refl}
 use Prim.Native.Nat.{ℕ}
 use Rattle.wire.specs.Bytes.{over}
 use Rattle.sedna.specs.Allowed.{allowed, formatAllowed, versionAllowed, classAllowed, typeAllowed}
-use Rattle.sedna.specs.Message.{Url, Body, Message}
+use Rattle.sedna.specs.Message.{Url, Body, Message, message}
 use Rattle.sedna.specs.Names as M
 use Rattle.sedna.specs.Table.{rows, search, findOf}
 use Rattle.assembly.specs.declared.Open.{Open}
@@ -13,9 +13,6 @@ use Rattle.assembly.specs.Answers.{Reply}
 use Rattle.assembly.specs.Calls.{run}
 use Rattle.assembly.specs.Joining.{opened, fitted, judged, joined, stored}
 use Rattle.assembly.specs.Roles.{together, roleOf}
-
-abbrev message : ℕ → Body → Message
-message k b = record { instruction = k; body = b }
 
 -- what the calls answer, from a fresh opening
 abbrev replies : Open → List Message → List Reply

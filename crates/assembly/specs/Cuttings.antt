@@ -5,7 +5,7 @@ use mathlib.Core.Path.{_≡_}
 use Prim.Native.Nat.{ℕ, _≤_, _<_}
 use lib.ListN.{length, take, drop}
 use Rattle.sedna.specs.Allowed.{allowed}
-use Rattle.sedna.specs.Message.{Url, Body, Message}
+use Rattle.sedna.specs.Message.{Url, Body, Message, message}
 use Rattle.sedna.specs.Names.{Execute, ExecuteLong, LongQueryEnd, ItemPart, ItemStart, ItemEnd, ResultEnd}
 use Rattle.assembly.specs.declared.Open.{Open}
 use Rattle.assembly.specs.declared.Open.the-variants as gathering
@@ -31,9 +31,6 @@ pub data Cutting : Type 0 where
   item : List ℕ → List (List ℕ) → Ending → Cutting
   -- "ItemStart ItemPart* in 4.0": class, type, URL, text; the further texts
   typed-item : ℕ → ℕ → Url → List ℕ → List (List ℕ) → Ending → Cutting
-
-abbrev message : ℕ → Body → Message
-message instruction body = record { instruction = instruction; body = body }
 
 abbrev pub executeLong : Piece → Message
 executeLong p = message ExecuteLong (Body.statement (p .format) (p .text))

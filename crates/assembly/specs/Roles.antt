@@ -4,13 +4,9 @@ use mathlib.Core.List.{List, []}
 use Prim.Native.Nat.{ℕ}
 use lib.Dec.{eqb}
 use Rattle.wire.specs.Bytes.{if}
-use Rattle.sedna.specs.declared.Found.{Found}
-use Rattle.sedna.specs.declared.Found.the-variants as found
-use Rattle.sedna.specs.declared.Shape.{Shape}
-use Rattle.sedna.specs.Kinds.{sameShape}
-use Rattle.sedna.specs.Message.{Body, Message, shapeOf}
+use Rattle.sedna.specs.Message.{Body, Message}
 use Rattle.sedna.specs.Names.{Execute, ExecuteLong, LongQueryEnd, ItemPart, ItemStart, ItemEnd, ResultEnd}
-use Rattle.sedna.specs.Table.{findOf}
+use Rattle.sedna.specs.Table.{findOf, shaped}
 use Rattle.assembly.specs.declared.Label.{Label}
 use Rattle.assembly.specs.declared.Open.{Open}
 use Rattle.assembly.specs.declared.Open.the-variants as gathering
@@ -40,13 +36,9 @@ openRole gathering.Statement k = statementRole k
 openRole gathering.Item k = itemRole k
 openRole gathering.TypedItem k = typedItemRole k
 
-abbrev pub hasShape : Found → Shape → Bool
-hasShape found.Unknown shape = false
-hasShape (found.Known sender own) shape = sameShape own shape
-
 -- the body is of the shape that the table gives the instruction
 unfoldable pub together : ℕ → Body → Bool
-together k b = hasShape (findOf k) (shapeOf b)
+together k b = shaped (findOf k) b
 
 -- "a message of another kind" is also one whose body is not its instruction's
 unfoldable pub roleOf : Open → Message → Role

@@ -6,9 +6,9 @@ use Prim.Native.Nat.{ℕ, _*_, _-_, _≤_, _<_}
 use native.Mathlib.Omega.{arith}
 use lib.ListN.{length, take, drop, getElem?, length-map}
 use borrow.Author.Tests.{le-leb, lt-leb}
-use Rattle.sedna.specs.Message.{Url, Body, Message}
+use Rattle.sedna.specs.Message.{Url, Body, Message, message}
 use Rattle.sedna.specs.Names as M
-use Rattle.fragments.specs.Cut.{pieces, message, statementRoom, partRoom, startRoom, cutStatement, itemParts, cutItem, cutTypedItem}
+use Rattle.fragments.specs.Cut.{pieces, statementRoom, partRoom, startRoom, cutStatement, itemParts, cutItem, cutTypedItem}
 use Rattle.fragments.specs.Part.{pieceCount}
 use Rattle.fragments.proofs.Elements.{at-map, at-front, at-behind, at-next}
 use Rattle.fragments.proofs.Pieces.{piece-at, piece-past, length-pieces, within, beyond}

@@ -4,7 +4,7 @@ use Prim.Native.Nat.{ℕ, zero, suc, _-_}
 use lib.Dec.{leb}
 use lib.ListN.{length, take, drop}
 use Rattle.wire.specs.Bytes.{if}
-use Rattle.sedna.specs.Message.{Url, Body, Message}
+use Rattle.sedna.specs.Message.{Url, Body, Message, message}
 use Rattle.sedna.specs.Names as M
 
 -- s in pieces of n bytes, "with the rest … last": none of them is empty, and nothing has none. The first number bounds how many there are
@@ -15,9 +15,6 @@ piecesUpTo (suc most) n (x ∷ s) = take n (x ∷ s) ∷ piecesUpTo most n (drop
 
 abbrev pub pieces : ℕ → List ℕ → List (List ℕ)
 pieces n s = piecesUpTo (length s) n s
-
-abbrev pub message : ℕ → Body → Message
-message instruction body = record { instruction = instruction; body = body }
 
 -- the bytes of text that a body of 10,240 holds: behind the format byte and the string's five; behind the string's five
 abbrev pub statementRoom : ℕ

@@ -1,12 +1,11 @@
 // Cuts statements and items into messages: how many there are, and the k-th written into lent
 // output. What is written is a part of the lent text; nothing is gathered on the way.
-ghost use mathlib.Core.Bool.{true, false};
+ghost use mathlib.Core.Bool.{true};
 ghost use mathlib.Core.Path.{_≡_};
 ghost use Prim.Native.Nat.{_<_, _*_};
 ghost use lib.Dec.{leb};
 ghost use lib.ListN.{length, take, drop, getElem?};
-ghost use Rattle.wire.specs.Bytes.{if};
-ghost use Rattle.sedna.specs.Allowed.{formatAllowed, classAllowed, typeAllowed, allowed};
+ghost use Rattle.sedna.specs.Allowed.{formatAllowed, allowed};
 ghost use Rattle.sedna.specs.Message.{Url, Body};
 ghost use Rattle.fragments.specs.Cut.{cutStatement, itemParts, cutItem, cutTypedItem};
 ghost use Rattle.fragments.specs.Part.{pieceCount, statementParts, itemPartsFrom, urlParts, writtenOf, partWritten, partLeft};
@@ -169,22 +168,12 @@ pub fn write_item_part(out: &mut [u8], text: &[u8], k: usize) -> Written
     write_following(out, behind(text, PART_ROOM), k - 1)
 }
 
-// Judged for every part: an ItemPart has neither class nor type.
-fn item_allowed(class: u8, kind: u8) -> bool
-    ensures { λ r. ⌜ r ≡ if (classAllowed class) (typeAllowed kind) false ⌝ }
-{
-    if sedna::class_allowed(class) {
-        sedna::type_allowed(kind)
-    } else {
-        false
-    }
-}
-
-// Part k of an item's messages in 4.0, without a URL.
+// Part k of an item's messages in 4.0, without a URL. Class and type are judged for every part: an
+// ItemPart has neither.
 pub fn write_typed_item_part(out: &mut [u8], class: u8, kind: u8, text: &[u8], k: usize) -> Written
     ensures { λ r. ⌜ (r ≡ partWritten (allowed (Body.item class kind Url.absent (now (text .entry)))) true (cutTypedItem class kind Url.absent (now (text .entry))) k (length (now (out .entry)))) × (now (out .exit) ≡ partLeft (now (out .entry)) (getElem? (cutTypedItem class kind Url.absent (now (text .entry))) k) r) ⌝ }
 {
-    if item_allowed(class, kind) {
+    if sedna::item_allowed(class, kind) {
         if k == 0 {
             let t = front(text, START_ROOM);
             return write_item(out, names::ITEM_START, class, kind, t);
@@ -205,7 +194,7 @@ pub fn write_typed_item_url_part(
 ) -> Written
     ensures { λ r. ⌜ (r ≡ partWritten (allowed (Body.item class kind (Url.present (now (url .entry))) (now (text .entry)))) (leb (length (now (url .entry))) 10227) (cutTypedItem class kind (Url.present (now (url .entry))) (now (text .entry))) k (length (now (out .entry)))) × (now (out .exit) ≡ partLeft (now (out .entry)) (getElem? (cutTypedItem class kind (Url.present (now (url .entry))) (now (text .entry))) k) r) ⌝ }
 {
-    if item_allowed(class, kind) {
+    if sedna::item_allowed(class, kind) {
         if URL_ROOM < url.len() {
             return Written::Refused(Refusal::NoEncoding);
         }

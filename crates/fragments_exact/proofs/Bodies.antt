@@ -11,12 +11,12 @@ use Rattle.sedna.specs.declared.Shape.the-variants.{Empty, Text, Statement, Ite
 use Rattle.sedna.specs.declared.Found.the-variants.{Known}
 use Rattle.sedna.specs.Allowed.{formatAllowed, classAllowed, typeAllowed, allowed}
 use Rattle.sedna.specs.Encode.{string, urlBytes, bodyBytes}
-use Rattle.sedna.specs.Message.{Url, Body, Message}
+use Rattle.sedna.specs.Message.{Url, Body, Message, message}
 use Rattle.sedna.specs.Names as M
 use Rattle.sedna.specs.Published.{Published}
 use Rattle.sedna.specs.Table.{rows, search, findOf}
 use Rattle.sedna_exact.proofs.Table.{listed-find}
-use Rattle.fragments.specs.Cut.{message, statementRoom, partRoom, startRoom}
+use Rattle.fragments.specs.Cut.{statementRoom, partRoom, startRoom}
 use Rattle.fragments_exact.specs.Rejoined.{UrlFits}
 
 string-length : (s : List ℕ) → length (string s) ≡ 5 + length s

@@ -12,7 +12,7 @@ use Rattle.sedna.specs.declared.Side.the-variants.{Client, Server}
 use Rattle.sedna.specs.declared.Shape.the-variants.{Statement}
 use Rattle.sedna.specs.declared.Found.the-variants.{Known}
 use Rattle.sedna.specs.Allowed.{formatAllowed, classAllowed, typeAllowed, allowed}
-use Rattle.sedna.specs.Message.{Url, Body, Message}
+use Rattle.sedna.specs.Message.{Url, Body, Message, message}
 use Rattle.sedna.specs.Names as M
 use Rattle.sedna.specs.Published.{Published}
 use Rattle.sedna.specs.Table.{rows, search, findOf}
@@ -20,7 +20,7 @@ use Rattle.grammar.specs.Sent.{Sent, Version, from, upTo}
 use Rattle.grammar.specs.Grammar.{Plus, plus, Request, execute, execute-long, Within, within-part, Item, parts, started}
 use Rattle.grammar.specs.Layout.{one, each, flatRequest, flatWithin, flatItem}
 use Rattle.session_exact.proofs.Published.{published-sent}
-use Rattle.fragments.specs.Cut.{message, statementRoom, partRoom, startRoom, pieces, cutStatement, itemParts, cutItem, cutTypedItem}
+use Rattle.fragments.specs.Cut.{statementRoom, partRoom, startRoom, pieces, cutStatement, itemParts, cutItem, cutTypedItem}
 use Rattle.fragments.specs.Every.{Every}
 use Rattle.fragments.specs.Part.{pieceCount}
 use Rattle.fragments.proofs.Cuts.{cut-sole, cut-long}

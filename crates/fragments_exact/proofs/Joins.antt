@@ -8,9 +8,9 @@ use lib.Dec.{leb}
 use lib.ListN.{length, take, drop}
 use borrow.Author.Tests.{leb-true, leb-false}
 use Rattle.sedna.specs.Allowed.{formatAllowed, allowed}
-use Rattle.sedna.specs.Message.{Url, Body, Message}
+use Rattle.sedna.specs.Message.{Url, Body, Message, message}
 use Rattle.sedna.specs.Names as M
-use Rattle.fragments.specs.Cut.{message, statementRoom, partRoom, startRoom, pieces, cutStatement, itemParts, cutItem, cutTypedItem}
+use Rattle.fragments.specs.Cut.{statementRoom, partRoom, startRoom, pieces, cutStatement, itemParts, cutItem, cutTypedItem}
 use Rattle.fragments.proofs.Cuts.{cut-sole, cut-long}
 use Rattle.fragments.proofs.Joined.{pieces-joined, first-joined}
 use Rattle.assembly.specs.declared.Open.the-variants as gathering

@@ -5,8 +5,8 @@ use mathlib.Core.List.{List, [], _∷_}
 use mathlib.Core.Bool.{not}
 use Prim.Native.Nat.{ℕ}
 use lib.Dec.{T}
-use Rattle.sedna.specs.Message.{Message}
-use Rattle.grammar.specs.Sent.{Version, from, upTo, Sent, versionOf, message}
+use Rattle.sedna.specs.Message.{Message, message}
+use Rattle.grammar.specs.Sent.{Version, from, upTo, Sent, versionOf}
 use Rattle.sedna.specs.Names as M
 use Rattle.grammar.specs.Grammar.{Reply, well, wrong, SideExchange, show-time, set-options, reset-options}
 

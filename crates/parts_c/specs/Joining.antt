@@ -7,6 +7,7 @@ use lib.ListN.{length, getD, drop}
 use Rattle.wire.specs.Bytes.{if}
 use Rattle.wire.specs.declared.Refusal.{Refusal}
 use Rattle.wire.specs.declared.Refusal.the-variants.{ValueNotAllowed, NoRoom}
+use Rattle.wire.specs.Refusals.{refusalCode}
 use Rattle.sedna.specs.Message.{Message}
 use Rattle.sedna_read.specs.declared.Reading.{Reading}
 use Rattle.sedna_read.specs.declared.Reading.the-variants as read
@@ -20,7 +21,7 @@ use Rattle.assembly.specs.Roles.{label}
 use Rattle.assembly.specs.Joining.{opened, joined, stored}
 use Rattle.parts_c.specs.declared.joining.Kept.{Kept}
 use Rattle.parts_c.specs.declared.joining.Kept.the-variants as kept
-use Rattle.sedna_c.specs.Codes.{refusalCode, sideReading}
+use Rattle.sedna_c.specs.Codes.{sideReading}
 
 -- what is open: 0 nothing, 1 a statement, 2 an item up to 3.0, 3 one of 4.0
 abbrev pub openOf : ℕ → Open

@@ -12,11 +12,11 @@ use assembly::Assembly;
 use assembly::Joined;
 use assembly::Label;
 use assembly::Open;
-use sedna_c::refusal_code;
 use sedna_c::sides::Sender;
 use sedna_c::sides::sender_of;
 use sedna_read::Reading;
 use wire::Refusal;
+use wire::refusal_code;
 
 // The numbers of an assembly, or of none.
 pub enum Kept {

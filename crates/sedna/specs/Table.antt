@@ -1,4 +1,5 @@
 -- Document 01, "Instructions and bodies stand in one constant table", and what stands where in it.
+use mathlib.Core.Bool.{Bool, false}
 use mathlib.Core.List.{List, [], _∷_, _++_, map}
 use mathlib.Core.Path.{_≡_}
 use Prim.Native.Nat.{ℕ, _<_}
@@ -12,6 +13,8 @@ use Rattle.sedna.specs.declared.Shape.the-variants.{Empty, Session, Text
 use Rattle.sedna.specs.declared.Entry.{Entry}
 use Rattle.sedna.specs.declared.Found.{Found}
 use Rattle.sedna.specs.declared.Found.the-variants.{Known, Unknown}
+use Rattle.sedna.specs.Kinds.{sameShape}
+use Rattle.sedna.specs.Message.{Body, shapeOf}
 use Rattle.sedna.specs.Names.{StartUp, Begin, Commit, Rollback, LongQueryEnd, GetNextItem, BulkLoadEnd, ShowTime, Close, ResetOptions, SessionParameters, AuthenticationParameters, BulkLoadPortion, Execute, ExecuteLong, BulkLoadError, SetOptions, SendSessionParameters, SendAuthParameters, AuthenticationOk, BeginOk, CommitOk, RollbackOk, QuerySucceeded, UpdateSucceeded, ItemEnd, ResultEnd, BulkLoadFromStream, BulkLoadSucceeded, CloseOk, RollbackBeforeClose, SetOptionsOk, ResetOptionsOk, ErrorResponse, AuthenticationFailed, BeginFailed, CommitFailed, RollbackFailed, DebugInfo, QueryFailed, UpdateFailed, BulkLoadFailed, ItemPart, BulkLoadFileName, LastQueryTime, ItemStart}
 
 -- a row of document 01's table: one sender, one body, the instructions
@@ -52,3 +55,8 @@ search instruction (e ∷ es) = if (eqb (e .0) instruction) (Known (e .1) (e .2)
 
 unfoldable pub findOf : ℕ → Found
 findOf instruction = search instruction rows
+
+-- the body has the shape that the table tells
+abbrev pub shaped : Found → Body → Bool
+shaped Unknown body = false
+shaped (Known sender shape) body = sameShape shape (shapeOf body)

@@ -1,5 +1,7 @@
 // The published Sedna messages: the one table of instructions, and the values that a body may hold.
+ghost use mathlib.Core.Bool.{false};
 ghost use mathlib.Core.Path.{_≡_};
+ghost use Rattle.wire.specs.Bytes.{if};
 ghost use Rattle.sedna.specs.Table.{rows, findOf};
 ghost use Rattle.sedna.specs.Allowed.{versionAllowed, formatAllowed, classAllowed, typeAllowed};
 ghost use Rattle.sedna.specs.Kinds.{sideNumber, shapeNumber};
@@ -174,4 +176,15 @@ pub fn type_allowed(kind: u8) -> bool
         return false;
     }
     kind <= 61
+}
+
+// An item's class and type.
+pub fn item_allowed(class: u8, kind: u8) -> bool
+    ensures { λ r. ⌜ r ≡ if (classAllowed class) (typeAllowed kind) false ⌝ }
+{
+    if class_allowed(class) {
+        type_allowed(kind)
+    } else {
+        false
+    }
 }

@@ -7,7 +7,7 @@ use Rattle.wire.specs.Bytes.{if}
 use Rattle.wire.specs.declared.Place.{Place}
 use Rattle.wire.specs.declared.Refusal.{Refusal}
 use Rattle.wire.specs.declared.Refusal.the-variants.{ValueNotAllowed, NoRoom}
-use Rattle.wire.specs.Refusals.{numberOf}
+use Rattle.wire.specs.Refusals.{refusalCode}
 use Rattle.sedna.specs.declared.Side.the-variants.{Client, Server}
 use Rattle.sedna_read.specs.declared.OptionPlace.{OptionPlace}
 use Rattle.sedna_read.specs.declared.OptionPlace.the-variants as option
@@ -21,10 +21,6 @@ use Rattle.sedna_read.specs.Places.{located}
 use Rattle.sedna_read.specs.Reading.{reading}
 use Rattle.sedna_write.specs.declared.Written.{Written}
 use Rattle.sedna_write.specs.declared.Written.the-variants as write
-
--- a refusal: its number on top of 2^32, above every count
-abbrev pub refusalCode : Refusal → ℕ
-refusalCode r = 4294967296 + numberOf r
 
 abbrev pub writtenCode : Written → ℕ
 writtenCode (write.Bytes n) = n

@@ -6,6 +6,7 @@ use lib.Dec.{eqb, ltb}
 use lib.ListN.{length, getD, drop}
 use Rattle.wire.specs.Bytes.{if}
 use Rattle.wire.specs.declared.Refusal.the-variants.{ValueNotAllowed, NoRoom}
+use Rattle.wire.specs.Refusals.{refusalCode}
 use Rattle.sedna.specs.declared.Side.the-variants.{Client, Server}
 use Rattle.sedna_read.specs.declared.Reading.{Reading}
 use Rattle.sedna_read.specs.declared.Reading.the-variants as read
@@ -18,7 +19,7 @@ use Rattle.session.specs.Settled.{afterAnswer}
 use Rattle.session.specs.Step.{freshSession, stepped, closedOf}
 use Rattle.sedna_c.specs.declared.sides.Sender.{Sender}
 use Rattle.sedna_c.specs.declared.sides.Sender.the-variants as sender
-use Rattle.sedna_c.specs.Codes.{refusalCode, readCode, fieldsLeft}
+use Rattle.sedna_c.specs.Codes.{readCode, fieldsLeft}
 
 -- the record in the first two bytes: phase, version
 abbrev pub recordIn : List ℕ → Session

@@ -1,31 +1,25 @@
 // Reading and writing for programs in C and Rust: numbers and slices in, numbers out. An answer
-// above 2^32 is a refusal, its number on top of 2^32.
+// above 2^63 is a refusal, its number on top of 2^63.
 ghost use mathlib.Core.List.{_++_};
 ghost use mathlib.Core.Path.{_≡_};
 ghost use Prim.Native.Nat.{_≤_};
 ghost use lib.ListN.{length, take, drop};
 ghost use Rattle.sedna.specs.declared.Shape.the-variants.{Options as options};
 ghost use Rattle.sedna.specs.Encode.{pairsBytes};
-ghost use Rattle.sedna.specs.Message.{Url, Body};
+ghost use Rattle.sedna.specs.Message.{Url, Body, message};
 ghost use Rattle.sedna_read.specs.Places.{optionAt};
 ghost use Rattle.sedna_write.specs.Pairs.{given, pairsOf};
-ghost use Rattle.sedna_write.specs.Writing.{judgement, message, written, left};
-ghost use Rattle.sedna_c.specs.Codes.{refusalCode, writtenCode, fieldList, fieldsOf, optionCode, optionLeft};
+ghost use Rattle.sedna_write.specs.Writing.{judgement, written, left};
+ghost use Rattle.sedna_c.specs.Codes.{writtenCode, fieldList, fieldsOf, optionCode, optionLeft};
 use sedna_read::OptionPlace;
 use sedna_read::Places;
 use sedna_read::UrlPlace;
 use sedna_write::Written;
 use wire::Place;
-use wire::Refusal;
+use wire::refusal_code;
 
 mod sessions;
 pub mod sides;
-
-pub fn refusal_code(r: Refusal) -> u64
-    ensures { λ n. ⌜ n ≡ refusalCode r ⌝ }
-{
-    4294967296 + (wire::number(r) as u64)
-}
 
 pub fn written_code(w: Written) -> u64
     ensures { λ n. ⌜ n ≡ writtenCode w ⌝ }

@@ -5,7 +5,6 @@ ghost use Prim.Native.Nat.{_≤_};
 ghost use lib.ListN.{length};
 ghost use Rattle.sedna_c.specs.Codes.{readCode, fieldsLeft, sideReading};
 ghost use Rattle.sedna_c.specs.Sessions.{recordIn, recordPut, freshCode, freshLeft, senderOf, answerOf, ledTo, stepCode, stepFields, stepLeft, closedCode};
-use crate::refusal_code;
 use crate::sides::Sender;
 use crate::sides::sender_of;
 use crate::store_places;
@@ -14,6 +13,7 @@ use session::Session;
 use session::machine::next;
 use session::phase::REFUSED;
 use wire::Refusal;
+use wire::refusal_code;
 
 fn record_in(session: &[u8]) -> Session
     requires { ⌜ 2 ≤ length (now session) ⌝ }

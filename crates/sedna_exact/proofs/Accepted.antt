@@ -10,10 +10,10 @@ use borrow.Author.Tests.{le-ltb, ltb-false}
 use Rattle.wire.specs.Bytes.{IsBytes, int, intAt}
 use Rattle.sedna.specs.declared.Side.{Side}
 use Rattle.sedna.specs.declared.Shape.{Shape}
-use Rattle.sedna.specs.Message.{Body, Message, shapeOf}
+use Rattle.sedna.specs.Message.{Body, Message, shapeOf, message}
 use Rattle.sedna.specs.Encode.{bodyBytes, encode}
 use Rattle.sedna.specs.Published.{Published, Front}
-use Rattle.sedna_read.specs.Fields.{Got}
+use Rattle.wire.specs.Fields.{Got}
 use Rattle.sedna_read.specs.Reading.{Heading, Answer, bodyField, heading, answered, afterHead, reading}
 use Rattle.sedna_exact.proofs.Branches.{apart, either}
 use Rattle.sedna_exact.proofs.Bytes.{bytes-front, bytes-behind, bytes-part, int-small, int-written}
@@ -50,10 +50,6 @@ module _ (side : Side) (m : Message) (rest : List ℕ) (h : IsBytes (encode m ++
       let body-is : IsBytes body = bytes-front body rest (bytes-behind (take 8 s) (body ++ rest) h) in
       ap (afterHead s) (head-forth side s (shapeOf (m .body)) k encoded-head)
       ∙ rw (le-ltb (length s) (8 + k) (omega arith), encoded-instruction, take-append-seam body rest, body-forth (m .body) (p .values) body-is, count)
-
--- the message of an instruction and a body
-abbrev message : ℕ → Body → Message
-message i b = record { instruction = i; body = b }
 
 -- a head was taken, and a body after it
 module _ (side : Side) (s : List ℕ) (h : IsBytes s) (of : Shape) (k : ℕ) (head : Head side s of k) (fits : 8 + k ≤ length s) (b : Body) (body : Read of (take k (drop 8 s)) b []) where

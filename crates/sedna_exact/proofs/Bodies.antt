@@ -10,7 +10,8 @@ use Rattle.sedna.specs.declared.Shape.the-variants as shape
 use Rattle.sedna.specs.Message.{Body, shapeOf}
 use Rattle.sedna.specs.Allowed.{allowed, versionAllowed, formatAllowed, classAllowed, typeAllowed}
 use Rattle.sedna.specs.Encode.{string, urlBytes, pairsBytes, bodyBytes}
-use Rattle.sedna_read.specs.Fields.{Got, goOn, _>>_, give, byteField, intField, stringField, nothingLeft}
+use Rattle.wire.specs.Fields.{Got, goOn, _>>_, give}
+use Rattle.sedna_read.specs.Fields.{byteField, intField, stringField, nothingLeft}
 use Rattle.sedna_read.specs.Reading.{sessionFields, textFields, statementFields, codedFields, pairsField, optionsFields, itemFields, fieldsOf, bodyField}
 use Rattle.sedna_exact.proofs.Branches.{apart, both}
 use Rattle.sedna_exact.proofs.Bytes.{bytes-behind}

@@ -9,7 +9,8 @@ use lib.Seq.{take-append-seam, drop-append-seam, length-take-le}
 use borrow.Author.Tests.{le-ltb, ltb-false, eqb-true}
 use Rattle.wire.specs.Bytes.{IsBytes, int}
 use Rattle.sedna.specs.Encode.{string}
-use Rattle.sedna_read.specs.Fields.{Got, byteField, intField, bytesField, stringField}
+use Rattle.wire.specs.Fields.{Got}
+use Rattle.sedna_read.specs.Fields.{byteField, intField, bytesField, stringField}
 use Rattle.sedna_exact.proofs.Branches.{apart, either}
 use Rattle.sedna_exact.proofs.Bytes.{bytes-behind, int-small, int-written, int-read}
 use Rattle.sedna_exact.proofs.Steps.{Forth, Back, past, passed, given}

@@ -10,9 +10,9 @@ use borrow.Author.Tests.{eq-eqb}
 use Rattle.sedna.specs.declared.Shape.the-variants as shape
 use Rattle.sedna.specs.Allowed.{allowed}
 use Rattle.sedna.specs.Encode.{bodyBytes, pairsBytes}
-use Rattle.sedna.specs.Message.{Pair, Body}
+use Rattle.sedna.specs.Message.{Pair, Body, message}
 use Rattle.sedna_write.specs.Pairs.{sum, given, pairsOf}
-use Rattle.sedna_write.specs.Writing.{judgement, message, written}
+use Rattle.sedna_write.specs.Writing.{judgement, written}
 
 -- lists that belong together are written as the message with those options
 pub options-written : (room i : ℕ) (ids lengths values : List ℕ) → given ids lengths values ≡ true

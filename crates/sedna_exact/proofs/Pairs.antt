@@ -7,7 +7,8 @@ use lib.ListN.{length, length-append}
 use Rattle.wire.specs.Bytes.{IsBytes, int}
 use Rattle.sedna.specs.Message.{Pair}
 use Rattle.sedna.specs.Encode.{string, pairBytes, pairsBytes}
-use Rattle.sedna_read.specs.Fields.{Got, intField, stringField}
+use Rattle.wire.specs.Fields.{Got}
+use Rattle.sedna_read.specs.Fields.{intField, stringField}
 use Rattle.sedna_read.specs.Reading.{pairField, pairsField}
 use Rattle.sedna_exact.proofs.Bytes.{bytes-behind}
 use Rattle.sedna_exact.proofs.Steps.{Forth, Back, past, given}

@@ -19,7 +19,8 @@ use Rattle.sedna.specs.Allowed.{versionAllowed, formatAllowed, classAllowed, ty
 use Rattle.sedna.specs.Kinds.{sameSide}
 use Rattle.sedna.specs.Message.{Body}
 use Rattle.sedna.specs.Table.{findOf}
-use Rattle.sedna_read.specs.Fields.{Got, Field, goOn, _>>=_, _>>_, judged, byteField, intField, bytesField, stringField, nothingLeft}
+use Rattle.wire.specs.Fields.{Got, Field, goOn, _>>=_, _>>_, judged}
+use Rattle.sedna_read.specs.Fields.{byteField, intField, bytesField, stringField, nothingLeft}
 use Rattle.sedna_read.specs.Reading.{sessionFields, textFields, statementFields, codedFields, pairField, pairsField, optionsFields, urlField, itemFields, fieldsOf, bodyField, Heading, headOf, heading, Answer, answered, afterHead, reading}
 
 -- a refusal that reading may answer

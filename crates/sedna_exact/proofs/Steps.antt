@@ -5,7 +5,7 @@ use mathlib.Core.Bool.{Bool, true, false}
 use Prim.Native.Nat.{ℕ}
 use Rattle.wire.specs.declared.Refusal.{Refusal}
 use Rattle.wire.specs.Bytes.{IsBytes}
-use Rattle.sedna_read.specs.Fields.{Got, Field, goOn, judged}
+use Rattle.wire.specs.Fields.{Got, Field, goOn, judged}
 use Rattle.sedna_exact.proofs.Branches.{apart}
 use Rattle.sedna_exact.proofs.Bytes.{bytes-behind}
 

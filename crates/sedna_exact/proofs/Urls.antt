@@ -10,7 +10,8 @@ use Rattle.wire.specs.declared.Refusal.the-variants.{ValueNotAllowed}
 use Rattle.wire.specs.Bytes.{IsBytes}
 use Rattle.sedna.specs.Message.{Url}
 use Rattle.sedna.specs.Encode.{string, urlBytes}
-use Rattle.sedna_read.specs.Fields.{Got, Field, goOn, _>>=_, _>>_, judged, byteField, stringField}
+use Rattle.wire.specs.Fields.{Got, Field, goOn, _>>=_, _>>_, judged}
+use Rattle.sedna_read.specs.Fields.{byteField, stringField}
 use Rattle.sedna_read.specs.Reading.{urlField}
 use Rattle.sedna_exact.proofs.Bytes.{bytes-behind}
 use Rattle.sedna_exact.proofs.Steps.{Forth, Back, past, passed, given}

@@ -16,7 +16,8 @@ use Rattle.sedna.specs.Allowed.{versionAllowed, formatAllowed, classAllowed, ty
 use Rattle.sedna.specs.Message.{Url, Pair, Body, Message}
 use Rattle.sedna.specs.Kinds.{sameSide}
 use Rattle.sedna.specs.Table.{findOf}
-use Rattle.sedna_read.specs.Fields.{Got, Field, _>>=_, _>>_, give, judged, byteField, intField, stringField, nothingLeft, goOn}
+use Rattle.wire.specs.Fields.{Got, Field, _>>=_, _>>_, give, judged, goOn}
+use Rattle.sedna_read.specs.Fields.{byteField, intField, stringField, nothingLeft}
 
 -- "major byte, minor byte, user, database"; "the version is judged when both bytes are read"
 unfoldable pub sessionFields : Field Body

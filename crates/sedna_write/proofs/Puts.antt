@@ -16,11 +16,11 @@ use Rattle.sedna.specs.declared.Found.the-variants as found
 use Rattle.sedna.specs.Allowed.{allowed}
 use Rattle.sedna.specs.Encode.{string, urlBytes, bodyBytes, encode}
 use Rattle.sedna.specs.Kinds.{sameShape}
-use Rattle.sedna.specs.Message.{Url, Body, Message, shapeOf}
+use Rattle.sedna.specs.Message.{Url, Body, Message, shapeOf, message}
 use Rattle.sedna.specs.Table.{findOf}
 use Rattle.sedna_write.specs.declared.Written.{Written}
 use Rattle.sedna_write.specs.declared.Written.the-variants.{Bytes, Refused}
-use Rattle.sedna_write.specs.Writing.{message, judgedAs, judgement, written, left, Fits, headed}
+use Rattle.sedna_write.specs.Writing.{judgedAs, judgement, written, left, Fits, headed}
 
 pub int-length : (n : ℕ) → length (int n) ≡ 4
 unfolding int

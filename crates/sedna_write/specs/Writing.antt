@@ -13,7 +13,7 @@ use Rattle.sedna.specs.declared.Found.the-variants as found
 use Rattle.sedna.specs.Allowed.{allowed}
 use Rattle.sedna.specs.Encode.{bodyBytes, encode}
 use Rattle.sedna.specs.Kinds.{sameShape}
-use Rattle.sedna.specs.Message.{Body, Message, shapeOf}
+use Rattle.sedna.specs.Message.{Body, Message, shapeOf, message}
 use Rattle.sedna.specs.Table.{findOf}
 use Rattle.sedna_write.specs.declared.Written.{Written}
 use Rattle.sedna_write.specs.declared.Written.the-variants.{Bytes, Refused}
@@ -31,9 +31,6 @@ judgedAs (found.Known sender own) shape ok n room =
 -- the answer to a body of n bytes of a shape, with allowed values or not, for an output of so many bytes
 unfoldable pub judgement : ℕ → Shape → Bool → ℕ → ℕ → Written
 judgement instruction shape ok n room = judgedAs (findOf instruction) shape ok n room
-
-abbrev pub message : ℕ → Body → Message
-message instruction body = record { instruction = instruction; body = body }
 
 -- what writing m answers
 abbrev pub written : ℕ → Message → Written

@@ -1,16 +1,14 @@
 // Writes Sedna messages into lent output: all of a message or nothing. One function for each body
 // shape; on a refusal, and behind the bytes written, the output stays as it was.
-ghost use mathlib.Core.Bool.{false};
 ghost use mathlib.Core.Path.{_≡_};
 ghost use Prim.Native.Nat.{_+_, _≤_, min};
 ghost use lib.ListN.{length};
-ghost use Rattle.wire.specs.Bytes.{if, placed};
+ghost use Rattle.wire.specs.Bytes.{placed};
 ghost use Rattle.sedna.specs.declared.Shape.the-variants.{Options as options};
-ghost use Rattle.sedna.specs.Allowed.{classAllowed, typeAllowed};
 ghost use Rattle.sedna.specs.Encode.{string, pairBytes, pairsBytes};
-ghost use Rattle.sedna.specs.Message.{Url, Body};
+ghost use Rattle.sedna.specs.Message.{Url, Body, message};
 ghost use Rattle.sedna_write.specs.Pairs.{sum, given, pairsOf};
-ghost use Rattle.sedna_write.specs.Writing.{judgement, message, written, left, Fits, headed};
+ghost use Rattle.sedna_write.specs.Writing.{judgement, written, left, Fits, headed};
 use sedna::Found;
 use sedna::Shape;
 use wire::Refusal;
@@ -163,21 +161,11 @@ pub fn write_session(
     }
 }
 
-fn item_allowed(class: u8, kind: u8) -> bool
-    ensures { λ r. ⌜ r ≡ if (classAllowed class) (typeAllowed kind) false ⌝ }
-{
-    if sedna::class_allowed(class) {
-        sedna::type_allowed(kind)
-    } else {
-        false
-    }
-}
-
 // An item's start without a URL: flag 0.
 pub fn write_item(out: &mut [u8], instruction: u32, class: u8, kind: u8, part: &[u8]) -> Written
     ensures { λ r. ⌜ (r ≡ written (length (now (out .entry))) (message instruction (Body.item class kind Url.absent (now (part .entry))))) × (now (out .exit) ≡ left (now (out .entry)) (message instruction (Body.item class kind Url.absent (now (part .entry)))) r) ⌝ }
 {
-    let allowed = item_allowed(class, kind);
+    let allowed = sedna::item_allowed(class, kind);
     let w = begin(out, instruction, Shape::Item, allowed, part.len() + 8);
     match w {
         Written::Refused(r) => Written::Refused(r),
@@ -202,7 +190,7 @@ pub fn write_item_url(
 ) -> Written
     ensures { λ r. ⌜ (r ≡ written (length (now (out .entry))) (message instruction (Body.item class kind (Url.present (now (url .entry))) (now (part .entry))))) × (now (out .exit) ≡ left (now (out .entry)) (message instruction (Body.item class kind (Url.present (now (url .entry))) (now (part .entry)))) r) ⌝ }
 {
-    let allowed = item_allowed(class, kind);
+    let allowed = sedna::item_allowed(class, kind);
     let n = capped(url.len(), part.len()) + 13;
     let w = begin(out, instruction, Shape::Item, allowed, n);
     match w {

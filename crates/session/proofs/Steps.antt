@@ -12,7 +12,7 @@ use Rattle.sedna.specs.declared.Shape.{Shape}
 use Rattle.sedna.specs.declared.Side.{Side}
 use Rattle.sedna.specs.Message.{Body, Message}
 use Rattle.sedna_read.specs.declared.Reading.{Reading}
-use Rattle.sedna_read.specs.Fields.{Got}
+use Rattle.wire.specs.Fields.{Got}
 use Rattle.sedna_read.specs.Places.{located, placesOf}
 use Rattle.sedna_read.specs.Reading.{Heading, heading, Answer, answered, bodyField, afterHead, reading, lastly}
 use Rattle.grammar.specs.Sent.{versionOf}

@@ -13,13 +13,13 @@ use Rattle.sedna.specs.declared.Found.the-variants.{Known, Unknown}
 use Rattle.sedna.specs.Allowed.{allowed}
 use Rattle.sedna.specs.Encode.{bodyBytes}
 use Rattle.sedna.specs.Kinds.{shapeNumber, sameShape}
-use Rattle.sedna.specs.Message.{Body, shapeOf}
+use Rattle.sedna.specs.Message.{Body, shapeOf, message}
 use Rattle.sedna.specs.Published.{Published}
-use Rattle.sedna.specs.Table.{InTable, findOf}
+use Rattle.sedna.specs.Table.{InTable, findOf, shaped}
 use Rattle.sedna_exact.proofs.Branches.{both}
 use Rattle.sedna_exact.proofs.Table.{find-listed, listed-find}
 use Rattle.sedna_exact.proofs.Written.{same-shape}
-use Rattle.grammar.specs.Sent.{shaped, published, message}
+use Rattle.grammar.specs.Sent.{published}
 
 true-T : {t : Bool} → t ≡ true → T t
 true-T e = subst (λ (t : Bool). T t) (sym e) tt

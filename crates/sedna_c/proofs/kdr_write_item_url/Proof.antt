@@ -1,6 +1,6 @@
 use mathlib.Core.Path.{ap, _∙_}
-use Rattle.sedna.specs.Message.{Url, Body}
-use Rattle.sedna_write.specs.Writing.{message, left}
+use Rattle.sedna.specs.Message.{Url, Body, message}
+use Rattle.sedna_write.specs.Writing.{left}
 use Rattle.sedna_c.specs.Codes.{writtenCode}
 use borrow.Author.Needs.{needs}
 use Rattle.sedna_c.proofs.kdr_write_item_url.Statement.{statement}

@@ -9,8 +9,8 @@ use Rattle.wire.proofs.Over.{step, last}
 use Rattle.sedna.specs.declared.Shape.the-variants as shape
 use Rattle.sedna.specs.Allowed.{allowed}
 use Rattle.sedna.specs.Encode.{string, urlBytes, bodyBytes}
-use Rattle.sedna.specs.Message.{Url, Body}
-use Rattle.sedna_write.specs.Writing.{judgement, Fits, headed, message}
+use Rattle.sedna.specs.Message.{Url, Body, message}
+use Rattle.sedna_write.specs.Writing.{judgement, Fits, headed}
 use Rattle.sedna_write.proofs.Puts.{body-ahead, written-counted, item-counted}
 use borrow.Author.Needs.{needs}
 use Rattle.sedna_write.proofs.write_item.Statement.{statement}

@@ -6,9 +6,9 @@ use lib.ListN.{length}
 use Rattle.wire.proofs.Over.{last}
 use Rattle.sedna.specs.declared.Shape.the-variants as shape
 use Rattle.sedna.specs.Encode.{bodyBytes}
-use Rattle.sedna.specs.Message.{Body}
+use Rattle.sedna.specs.Message.{Body, message}
 use Rattle.sedna_write.specs.Pairs.{given, pairsOf}
-use Rattle.sedna_write.specs.Writing.{judgement, Fits, headed, message}
+use Rattle.sedna_write.specs.Writing.{judgement, Fits, headed}
 use Rattle.sedna_write.proofs.Given.{given-split, options-counted, options-judged}
 use Rattle.sedna_write.proofs.Puts.{body-ahead, bytes-allowed}
 use borrow.Author.Needs.{needs}

@@ -3,8 +3,8 @@ use mathlib.Core.Path.{_≡_, ap, subst, sym, _∙_}
 use Prim.Native.Nat.{_+_}
 use Rattle.sedna.specs.declared.Shape.the-variants as shape
 use Rattle.sedna.specs.Encode.{string, bodyBytes}
-use Rattle.sedna.specs.Message.{Body}
-use Rattle.sedna_write.specs.Writing.{judgement, Fits, headed, message}
+use Rattle.sedna.specs.Message.{Body, message}
+use Rattle.sedna_write.specs.Writing.{judgement, Fits, headed}
 use mathlib.Core.List.{[], _∷_}
 use mathlib.Core.Path.{ap, subst, sym, _∙_}
 use Prim.Native.Nat.{_+_}
@@ -15,7 +15,7 @@ use Rattle.wire.proofs.Over.{step, last}
 use Rattle.sedna.specs.Allowed.{allowed}
 use Rattle.sedna.specs.Encode.{string, bodyBytes}
 use Rattle.sedna.specs.Message.{Body}
-use Rattle.sedna_write.specs.Writing.{Fits, headed, message}
+use Rattle.sedna_write.specs.Writing.{Fits, headed}
 use Rattle.sedna_write.proofs.Puts.{body-ahead, written-counted, statement-counted}
 use borrow.Author.Needs.{needs}
 use Rattle.sedna_write.proofs.write_statement.Statement.{statement}

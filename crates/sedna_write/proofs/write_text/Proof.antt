@@ -6,8 +6,8 @@ use Rattle.wire.specs.Bytes.{int}
 use Rattle.wire.proofs.Over.{last}
 use Rattle.sedna.specs.Allowed.{allowed}
 use Rattle.sedna.specs.Encode.{string, bodyBytes}
-use Rattle.sedna.specs.Message.{Body}
-use Rattle.sedna_write.specs.Writing.{Fits, headed, message}
+use Rattle.sedna.specs.Message.{Body, message}
+use Rattle.sedna_write.specs.Writing.{Fits, headed}
 use Rattle.sedna_write.proofs.Puts.{body-ahead, written-counted, text-counted}
 use borrow.Author.Needs.{needs}
 use Rattle.sedna_write.proofs.write_text.Statement.{statement}
