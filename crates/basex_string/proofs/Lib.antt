@@ -1,4 +1,6 @@
 pub mod Steps
+pub mod Parts
 pub mod Scans
 pub mod Runs
+pub mod Pairs
 pub mod Laws

@@ -4,17 +4,19 @@ use mathlib.Core.List.{List, [], _∷_, _++_}
 use mathlib.Core.Bool.{Bool, true, false}
 use Prim.Native.Nat.{ℕ, zero, suc, _+_, _-_, _≤_, _<_}
 use native.Mathlib.Omega.{arith}
-use lib.Dec.{leb, eqb}
+use lib.Dec.{leb, ltb, eqb}
 use lib.ListN.{length, take, drop, getD, length-append, length-drop, drop-of-length-le}
-use lib.Seq.{drop-drop, getD-drop, length-take-le}
-use borrow.Author.Tests.{le-leb, lt-leb, leb-true, leb-false, ne-eqb}
-use Rattle.wire.specs.Bytes.{if}
+use lib.Seq.{drop-drop, getD-drop, length-take-le, take-add, paste}
+use borrow.Author.Tests.{le-leb, lt-leb, leb-true, leb-false, ltb-true, ltb-false, ne-eqb}
+use Rattle.wire.specs.Bytes.{if, over, placed}
+use Rattle.wire.proofs.Over.{placed-fits, both}
 use Rattle.basex_string.specs.Strings.{special, string}
-use Rattle.basex_string.specs.Scan.{Scanned, push, scan, reading}
-use Rattle.basex_string.specs.Answers.{specials, run, textOf}
+use Rattle.wire.specs.Fields.{Got}
+use Rattle.basex_string.specs.Scan.{push, scan, reading}
+use Rattle.basex_string.specs.Answers.{run, textOf}
 use Rattle.basex_string.specs.declared.StringAt.the-variants as string-at
 use Rattle.basex_string.proofs.Steps.{here}
-use Rattle.basex_string.proofs.Scans.{seen, reading-zero, text-here}
+use Rattle.basex_string.proofs.Scans.{seen, reading-end, reading-zero, text-here}
 
 -- a special byte ends the run, a plain one goes on with it
 run-past : (l : List ℕ) (i : ℕ) → special (getD l i 0) ≡ true → run l ≤ i
@@ -112,59 +114,32 @@ module _ (s : List ℕ) (i : ℕ) (h : i < length s) where
 -- where text is left, no 00 stands
 pub text-goes : (s : List ℕ) (i : ℕ) → 0 < length (textOf (reading (drop i s))) → (getD s i 0 ≡ 255 → ⊥) → 0 < run (drop i s)
 text-goes s i h f =
-    run-goes s i (text-here s i h) (λ (e : getD s i 0 ≡ 0). let q = ap (λ (x : Scanned). length (textOf x)) (reading-zero s i (text-here s i h) e) in omega arith) f
+    run-goes s i (text-here s i h) (λ (e : getD s i 0 ≡ 0). let q = ap (λ (x : Got (List ℕ)). length (textOf x)) (reading-zero s i (text-here s i h) e) in omega arith) f
 
-cons-special : (b : ℕ) (l : List ℕ) → special b ≡ true → run (b ∷ l) ≡ 0
-unfolding run
-cons-special b l e = rw e
-
-cons-plain : (b : ℕ) (l : List ℕ) → special b ≡ false → run (b ∷ l) ≡ suc (run l)
-unfolding run
-cons-plain b l e = rw e
-
--- what the definitions make of a run in front
-string-run : (l : List ℕ) → string l ≡ take (run l) l ++ string (drop (run l) l)
+-- what the definitions make of m plain bytes in front
+string-run : (m : ℕ) (l : List ℕ) → m ≤ run l → string l ≡ take m l ++ string (drop m l)
 unfolding run string
-string-run [] = refl
-string-run (b ∷ l) = by (special b) refl (string-run l)
+string-run zero l h = refl
+string-run (suc m) [] h = absurd (omega arith)
+string-run (suc m) (b ∷ l) h = by (special b) (string-run m l) h
   where
-    at : ℕ → List ℕ
-    at n = take n (b ∷ l) ++ string (drop n (b ∷ l))
-
-    plain : special b ≡ false → string (b ∷ l) ≡ b ∷ string l
-    plain e = rw e
-
-    by : (t : Bool) → special b ≡ t → string l ≡ take (run l) l ++ string (drop (run l) l) → string (b ∷ l) ≡ at (run (b ∷ l))
-    by true e ih = ap at (sym (cons-special b l e))
-    by false e ih = plain e ∙ ap (λ (m : List ℕ). b ∷ m) ih ∙ ap at (sym (cons-plain b l e))
-
-specials-run : (l : List ℕ) → specials l ≡ specials (drop (run l) l)
-unfolding run specials
-specials-run [] = refl
-specials-run (b ∷ l) = by (special b) refl (specials-run l)
-  where
-    at : ℕ → ℕ
-    at n = specials (drop n (b ∷ l))
-
-    plain : special b ≡ false → specials (b ∷ l) ≡ specials l
-    plain e = rw e
-
-    by : (t : Bool) → special b ≡ t → specials l ≡ specials (drop (run l) l) → specials (b ∷ l) ≡ at (run (b ∷ l))
-    by true e ih = ap at (sym (cons-special b l e))
-    by false e ih = plain e ∙ ih ∙ ap at (sym (cons-plain b l e))
+    by : (t : Bool) → (m ≤ run l → string l ≡ take m l ++ string (drop m l)) → suc m ≤ if t 0 (suc (run l))
+        → if t (255 ∷ b ∷ string l) (b ∷ string l) ≡ b ∷ (take m l ++ string (drop m l))
+    by true f h = absurd (omega arith)
+    by false f h = ap (λ (x : List ℕ). b ∷ x) (f (omega arith))
 
 -- a run read in front of what follows
-abbrev pushes : List ℕ → Scanned → Scanned
-pushes r (Scanned.refused q) = Scanned.refused q
-pushes r (Scanned.got s rest) = Scanned.got (r ++ s) rest
+abbrev pushes : List ℕ → Got (List ℕ) → Got (List ℕ)
+pushes r (Got.refused q) = Got.refused q
+pushes r (Got.got s rest) = Got.got (r ++ s) rest
 
-pushes-none : (x : Scanned) → x ≡ pushes [] x
-pushes-none (Scanned.refused q) = refl
-pushes-none (Scanned.got s rest) = refl
+pushes-none : (x : Got (List ℕ)) → x ≡ pushes [] x
+pushes-none (Got.refused q) = refl
+pushes-none (Got.got s rest) = refl
 
-push-pushes : (b : ℕ) (r : List ℕ) (x : Scanned) → push b (pushes r x) ≡ pushes (b ∷ r) x
-push-pushes b r (Scanned.refused q) = refl
-push-pushes b r (Scanned.got s rest) = refl
+push-pushes : (b : ℕ) (r : List ℕ) (x : Got (List ℕ)) → push b (pushes r x) ≡ pushes (b ∷ r) x
+push-pushes b r (Got.refused q) = refl
+push-pushes b r (Got.got s rest) = refl
 
 reading-plain : (b : ℕ) (l : List ℕ) → special b ≡ false → reading (b ∷ l) ≡ push b (reading l)
 unfolding scan
@@ -175,60 +150,91 @@ reading-plain b l = by (eqb b 0) refl (eqb b 255) refl
     by false p true q e = let w : true ≡ false = rw (p, q) at e in cc
     by false p false q e = rw (p, q)
 
-reading-run : (l : List ℕ) → reading l ≡ pushes (take (run l) l) (reading (drop (run l) l))
+reading-run : (m : ℕ) (l : List ℕ) → m ≤ run l → reading l ≡ pushes (take m l) (reading (drop m l))
 unfolding run scan
-reading-run [] = refl
-reading-run (b ∷ l) = by (special b) refl (reading-run l)
+reading-run zero l h = pushes-none (reading l)
+reading-run (suc m) [] h = absurd (omega arith)
+reading-run (suc m) (b ∷ l) h = by (special b) refl (reading-run m l) h
   where
-    at : ℕ → Scanned
-    at n = pushes (take n (b ∷ l)) (reading (drop n (b ∷ l)))
+    by : (t : Bool) → special b ≡ t → (m ≤ run l → reading l ≡ pushes (take m l) (reading (drop m l))) → suc m ≤ if t 0 (suc (run l))
+        → reading (b ∷ l) ≡ pushes (b ∷ take m l) (reading (drop m l))
+    by true e f h = absurd (omega arith)
+    by false e f h = reading-plain b l e ∙ ap (push b) (f (omega arith)) ∙ push-pushes b (take m l) (reading (drop m l))
 
-    by : (t : Bool) → special b ≡ t → reading l ≡ pushes (take (run l) l) (reading (drop (run l) l)) → reading (b ∷ l) ≡ at (run (b ∷ l))
-    by true e ih = pushes-none (reading (b ∷ l)) ∙ ap at (sym (cons-special b l e))
-    by false e ih = reading-plain b l e ∙ ap (push b) ih ∙ push-pushes b (take (run l) l) (reading (drop (run l) l)) ∙ ap at (sym (cons-plain b l e))
-
-seen-pushes : (n len : ℕ) (r : List ℕ) (x : Scanned) → seen n len (pushes r x) ≡ seen n (len + length r) x
-seen-pushes n len r (Scanned.refused q) = refl
-seen-pushes n len r (Scanned.got s rest) =
+seen-pushes : (n len : ℕ) (r : List ℕ) (x : Got (List ℕ)) → seen n len (pushes r x) ≡ seen n (len + length r) x
+seen-pushes n len r (Got.refused q) = refl
+seen-pushes n len r (Got.got s rest) =
     let l = length-append r s in
     let e : len + length (r ++ s) ≡ len + length r + length s = omega arith in
     ap (λ (m : ℕ). string-at.At m (n - length rest)) e
 
-text-pushes : (r : List ℕ) (x : Scanned) → 0 < length (textOf (pushes r x)) → textOf (pushes r x) ≡ r ++ textOf x
-text-pushes r (Scanned.refused q) h = absurd (omega arith)
-text-pushes r (Scanned.got s rest) h = refl
+text-pushes : (r : List ℕ) (x : Got (List ℕ)) → 0 < length (textOf (pushes r x)) → textOf (pushes r x) ≡ r ++ textOf x
+text-pushes r (Got.refused q) h = absurd (omega arith)
+text-pushes r (Got.got s rest) h = refl
 
--- the run from i to `end`
-module _ (s : List ℕ) (i end : ℕ) (e : end ≡ i + run (drop i s)) where
-  size : run (drop i s) ≡ end - i
-  size = omega arith
-
-  rest : drop (run (drop i s)) (drop i s) ≡ drop end s
-  rest = drop-drop (run (drop i s)) i s ∙ ap (λ (n : ℕ). drop n s) (sym e)
+-- plain bytes from i to `end`
+module _ (s : List ℕ) (i end : ℕ) (h : i ≤ end) (k : end ≤ i + run (drop i s)) where
+  rest : drop (end - i) (drop i s) ≡ drop end s
+  rest = let e : i + (end - i) ≡ end = omega arith in drop-drop (end - i) i s ∙ ap (λ (n : ℕ). drop n s) e
 
   pub run-fits : i ≤ length s → end ≤ length s
-  run-fits h = let w = run-within (drop i s) in let l = length-drop i s in omega arith
+  run-fits f = let w = run-within (drop i s) in let l = length-drop i s in omega arith
 
   pub run-size : i ≤ length s → length (take (end - i) (drop i s)) ≡ end - i
-  run-size h = let w = run-within (drop i s) in length-take-le (end - i) (drop i s) (omega arith)
-
-  pub run-specials : specials (drop i s) ≡ specials (drop end s)
-  run-specials = specials-run (drop i s) ∙ ap specials rest
+  run-size f = let w = run-within (drop i s) in length-take-le (end - i) (drop i s) (omega arith)
 
   pub run-string : string (drop i s) ≡ take (end - i) (drop i s) ++ string (drop end s)
-  run-string = string-run (drop i s) ∙ ap (λ (n : ℕ). take n (drop i s) ++ string (drop (run (drop i s)) (drop i s))) size ∙ ap (λ (m : List ℕ). take (end - i) (drop i s) ++ string m) rest
+  run-string = string-run (end - i) (drop i s) (omega arith) ∙ ap (λ (m : List ℕ). take (end - i) (drop i s) ++ string m) rest
 
   pub run-string-size : i ≤ length s → length (string (drop i s)) ≡ (end - i) + length (string (drop end s))
-  run-string-size h = ap length run-string ∙ length-append (take (end - i) (drop i s)) (string (drop end s)) ∙ ap (λ (n : ℕ). n + length (string (drop end s))) (run-size h)
+  run-string-size f = ap length run-string ∙ length-append (take (end - i) (drop i s)) (string (drop end s)) ∙ ap (λ (n : ℕ). n + length (string (drop end s))) (run-size f)
 
   run-reading : reading (drop i s) ≡ pushes (take (end - i) (drop i s)) (reading (drop end s))
-  run-reading = reading-run (drop i s) ∙ ap (λ (n : ℕ). pushes (take n (drop i s)) (reading (drop (run (drop i s)) (drop i s)))) size ∙ ap (λ (m : List ℕ). pushes (take (end - i) (drop i s)) (reading m)) rest
+  run-reading = reading-run (end - i) (drop i s) (omega arith) ∙ ap (λ (m : List ℕ). pushes (take (end - i) (drop i s)) (reading m)) rest
 
   pub run-seen : (n len : ℕ) → i ≤ length s → seen n len (reading (drop i s)) ≡ seen n (len + (end - i)) (reading (drop end s))
-  run-seen n len h = ap (seen n len) run-reading ∙ seen-pushes n len (take (end - i) (drop i s)) (reading (drop end s)) ∙ ap (λ (m : ℕ). seen n (len + m) (reading (drop end s))) (run-size h)
+  run-seen n len f = ap (seen n len) run-reading ∙ seen-pushes n len (take (end - i) (drop i s)) (reading (drop end s)) ∙ ap (λ (m : ℕ). seen n (len + m) (reading (drop end s))) (run-size f)
 
   pub run-text : 0 < length (textOf (reading (drop i s))) → textOf (reading (drop i s)) ≡ take (end - i) (drop i s) ++ textOf (reading (drop end s))
-  run-text h = ap textOf run-reading ∙ text-pushes (take (end - i) (drop i s)) (reading (drop end s)) (subst (λ (x : Scanned). 0 < length (textOf x)) run-reading h)
+  run-text t = ap textOf run-reading ∙ text-pushes (take (end - i) (drop i s)) (reading (drop end s)) (subst (λ (x : Got (List ℕ)). 0 < length (textOf x)) run-reading t)
 
   pub run-text-size : i ≤ length s → 0 < length (textOf (reading (drop i s))) → length (textOf (reading (drop i s))) ≡ (end - i) + length (textOf (reading (drop end s)))
-  run-text-size k h = ap length (run-text h) ∙ length-append (take (end - i) (drop i s)) (textOf (reading (drop end s))) ∙ ap (λ (n : ℕ). n + length (textOf (reading (drop end s)))) (run-size k)
+  run-text-size f t = ap length (run-text t) ∙ length-append (take (end - i) (drop i s)) (textOf (reading (drop end s))) ∙ ap (λ (n : ℕ). n + length (textOf (reading (drop end s)))) (run-size f)
+
+-- where text is left, the run ends ahead of the slice: at an FF or at the 00
+pub run-ends : (s : List ℕ) (i : ℕ) → 0 < length (textOf (reading (drop i s))) → i + run (drop i s) < length s
+run-ends s i t = by (ltb (i + run (drop i s)) (length s)) refl
+  where
+    by : (f : Bool) → ltb (i + run (drop i s)) (length s) ≡ f → i + run (drop i s) < length s
+    by true e = ltb-true _ _ e
+    by false e =
+        let h = text-here s i t in
+        let k = i + run (drop i s) in
+        let z = ap (λ (x : Got (List ℕ)). length (textOf (pushes (take (k - i) (drop i s)) x))) (reading-end s k (ltb-false _ _ e)) in
+        let r = ap (λ (x : Got (List ℕ)). length (textOf x)) (run-reading s i k (omega arith) (omega arith)) in
+        absurd (omega arith)
+
+-- the loop of `put_few`: n plain bytes stand in the output
+pub run-copy : (d : List ℕ) (to : ℕ) (s : List ℕ) (i n : ℕ) → i + n ≤ length s → paste d to (drop i s) n ≡ over d to (take (i + n - i) (drop i s))
+unfolding over
+run-copy d to s i n h =
+    let e : i + n - i ≡ n = omega arith in
+    let l = length-drop i s in
+    let m : length (take n (drop i s)) ≡ n = length-take-le n (drop i s) (omega arith) in
+    rw (e, m)
+
+-- a few plain bytes were copied, and then those up to `end`
+pub run-joined : (d : List ℕ) (to : ℕ) (s : List ℕ) (i few end k : ℕ) {a b : List ℕ} → i ≤ few → few ≤ end → end ≤ length s → to + (end - i) ≤ length d → k ≡ to + (few - i)
+    → a ≡ over d to (take (few - i) (drop i s)) → b ≡ placed a k (take (end - few) (drop few s)) → b ≡ over d to (take (end - i) (drop i s))
+run-joined d to s i few end k {a} {b} h g f r q p o =
+    let x : List ℕ = take (few - i) (drop i s) in
+    let y : List ℕ = take (end - few) (drop few s) in
+    let j : i + (few - i) ≡ few = omega arith in
+    let m : (few - i) + (end - few) ≡ end - i = omega arith in
+    let u : length x ≡ few - i = let l = length-drop i s in length-take-le (few - i) (drop i s) (omega arith) in
+    let v : length y ≡ end - few = let l = length-drop few s in length-take-le (end - few) (drop few s) (omega arith) in
+    let w : take (end - i) (drop i s) ≡ x ++ y =
+    ap (λ (n : ℕ). take n (drop i s)) (sym m)
+    ∙ take-add (few - i) (end - few) (drop i s) ∙ ap (λ (l : List ℕ). x ++ take (end - few) l) (drop-drop (few - i) i s ∙ ap (λ (n : ℕ). drop n s) j) in
+    let z = length-append x y in
+    both d to x y k (omega arith) (p ∙ sym (placed-fits d to x (omega arith))) o (omega arith) ∙ placed-fits d to (x ++ y) (omega arith) ∙ ap (over d to) (sym w)

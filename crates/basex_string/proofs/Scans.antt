@@ -11,39 +11,40 @@ use Rattle.wire.specs.Bytes.{placed}
 use Rattle.wire.specs.declared.Refusal.{Refusal}
 use Rattle.wire.specs.declared.Refusal.the-variants.{MoreBytes, NoRoom, BadEscape}
 use Rattle.basex_string.specs.Strings.{special}
-use Rattle.basex_string.specs.Scan.{Scanned, push, scan, reading}
+use Rattle.wire.specs.Fields.{Got}
+use Rattle.basex_string.specs.Scan.{push, scan, reading}
 use Rattle.basex_string.specs.Answers.{located, decoded, left, textOf}
 use Rattle.basex_string.specs.declared.StringAt.{StringAt}
 use Rattle.basex_string.specs.declared.StringAt.the-variants as string-at
 use Rattle.basex_string.proofs.Steps.{here}
 
 -- the answer when len bytes of the string were read before
-abbrev pub seen : ℕ → ℕ → Scanned → StringAt
-seen n len (Scanned.refused r) = string-at.Refused r
-seen n len (Scanned.got s rest) = string-at.At (len + length s) (n - length rest)
+abbrev pub seen : ℕ → ℕ → Got (List ℕ) → StringAt
+seen n len (Got.refused r) = string-at.Refused r
+seen n len (Got.got s rest) = string-at.At (len + length s) (n - length rest)
 
-pub seen-none : (n : ℕ) (x : Scanned) → located n x ≡ seen n 0 x
-seen-none n (Scanned.refused r) = refl
-seen-none n (Scanned.got s rest) = let e : length s ≡ 0 + length s = omega arith in ap (λ (m : ℕ). string-at.At m (n - length rest)) e
+pub seen-none : (n : ℕ) (x : Got (List ℕ)) → located n x ≡ seen n 0 x
+seen-none n (Got.refused r) = refl
+seen-none n (Got.got s rest) = let e : length s ≡ 0 + length s = omega arith in ap (λ (m : ℕ). string-at.At m (n - length rest)) e
 
-pub seen-push : (n len b : ℕ) (x : Scanned) → seen n len (push b x) ≡ seen n (len + 1) x
-seen-push n len b (Scanned.refused r) = refl
-seen-push n len b (Scanned.got s rest) = let e : len + suc (length s) ≡ len + 1 + length s = omega arith in ap (λ (m : ℕ). string-at.At m (n - length rest)) e
+pub seen-push : (n len b : ℕ) (x : Got (List ℕ)) → seen n len (push b x) ≡ seen n (len + 1) x
+seen-push n len b (Got.refused r) = refl
+seen-push n len b (Got.got s rest) = let e : len + suc (length s) ≡ len + 1 + length s = omega arith in ap (λ (m : ℕ). string-at.At m (n - length rest)) e
 
 -- the place behind the 00 at i
-pub seen-at : (s : List ℕ) (len i : ℕ) → i < length s → seen (length s) len (Scanned.got [] (drop (i + 1) s)) ≡ string-at.At len (i + 1)
+pub seen-at : (s : List ℕ) (len i : ℕ) → i < length s → seen (length s) len (Got.got [] (drop (i + 1) s)) ≡ string-at.At len (i + 1)
 seen-at s len i h =
     let e : len + 0 ≡ len = omega arith in
     let l = length-drop (i + 1) s in
     let m : length s - length (drop (i + 1) s) ≡ i + 1 = omega arith in
     rw (e, m)
 
-pub reading-end : (s : List ℕ) (i : ℕ) → length s ≤ i → reading (drop i s) ≡ Scanned.refused MoreBytes
+pub reading-end : (s : List ℕ) (i : ℕ) → length s ≤ i → reading (drop i s) ≡ Got.refused MoreBytes
 unfolding scan
 reading-end s i h = ap reading (drop-of-length-le s h)
 
 module _ (s : List ℕ) (i : ℕ) (h : i < length s) where
-  pub reading-zero : getD s i 0 ≡ 0 → reading (drop i s) ≡ Scanned.got [] (drop (i + 1) s)
+  pub reading-zero : getD s i 0 ≡ 0 → reading (drop i s) ≡ Got.got [] (drop (i + 1) s)
   unfolding scan
   reading-zero e = ap reading (here s i h) ∙ rw (eq-eqb (getD s i 0) 0 e)
 
@@ -51,7 +52,7 @@ module _ (s : List ℕ) (i : ℕ) (h : i < length s) where
   unfolding scan
   escape e = ap reading (here s i h) ∙ rw e
 
-  pub reading-cut : getD s i 0 ≡ 255 → length s ≤ i + 1 → reading (drop i s) ≡ Scanned.refused MoreBytes
+  pub reading-cut : getD s i 0 ≡ 255 → length s ≤ i + 1 → reading (drop i s) ≡ Got.refused MoreBytes
   unfolding scan
   reading-cut e k = escape e ∙ ap (scan true) (drop-of-length-le s k)
 
@@ -59,17 +60,17 @@ module _ (s : List ℕ) (i : ℕ) (h : i < length s) where
     two : drop (i + 1) s ≡ getD s (i + 1) 0 ∷ drop (i + 2) s
     two = let m : i + 1 + 1 ≡ i + 2 = omega arith in here s (i + 1) k ∙ ap (λ (n : ℕ). getD s (i + 1) 0 ∷ drop n s) m
 
-    pub reading-pair : special (getD s (i + 1) 0) ≡ true → reading (drop i s) ≡ push (getD s (i + 1) 0) (reading (drop (i + 2) s))
+    reading-pair : special (getD s (i + 1) 0) ≡ true → reading (drop i s) ≡ push (getD s (i + 1) 0) (reading (drop (i + 2) s))
     unfolding scan
     reading-pair g = escape e ∙ ap (scan true) two ∙ rw g
 
-    pub reading-bad : special (getD s (i + 1) 0) ≡ false → reading (drop i s) ≡ Scanned.refused BadEscape
+    pub reading-bad : special (getD s (i + 1) 0) ≡ false → reading (drop i s) ≡ Got.refused BadEscape
     unfolding scan
     reading-bad g = escape e ∙ ap (scan true) two ∙ rw g
 
-text-push : (b : ℕ) (x : Scanned) → 0 < length (textOf (push b x)) → textOf (push b x) ≡ b ∷ textOf x
-text-push b (Scanned.refused r) h = absurd (omega arith)
-text-push b (Scanned.got s rest) h = refl
+text-push : (b : ℕ) (x : Got (List ℕ)) → 0 < length (textOf (push b x)) → textOf (push b x) ≡ b ∷ textOf x
+text-push b (Got.refused r) h = absurd (omega arith)
+text-push b (Got.got s rest) h = refl
 
 -- where text is left, a byte of it stands at i, or an FF and the byte that it escapes
 module _ (s : List ℕ) (i : ℕ) (h : 0 < length (textOf (reading (drop i s)))) where
@@ -78,7 +79,7 @@ module _ (s : List ℕ) (i : ℕ) (h : 0 < length (textOf (reading (drop i s))))
     where
       by : (t : Bool) → ltb i (length s) ≡ t → i < length s
       by true e = ltb-true _ _ e
-      by false e = let z = ap (λ (x : Scanned). length (textOf x)) (reading-end s i (ltb-false _ _ e)) in omega arith
+      by false e = let z = ap (λ (x : Got (List ℕ)). length (textOf x)) (reading-end s i (ltb-false _ _ e)) in omega arith
 
   module _ (f : getD s i 0 ≡ 255) where
     pub text-two : i + 1 < length s
@@ -86,7 +87,7 @@ module _ (s : List ℕ) (i : ℕ) (h : 0 < length (textOf (reading (drop i s))))
       where
         by : (t : Bool) → ltb (i + 1) (length s) ≡ t → i + 1 < length s
         by true e = ltb-true _ _ e
-        by false e = let z = ap (λ (x : Scanned). length (textOf x)) (reading-cut s i text-here f (ltb-false _ _ e)) in omega arith
+        by false e = let z = ap (λ (x : Got (List ℕ)). length (textOf x)) (reading-cut s i text-here f (ltb-false _ _ e)) in omega arith
 
     pub text-pair : textOf (reading (drop i s)) ≡ getD s (i + 1) 0 ∷ textOf (reading (drop (i + 2) s))
     text-pair = by (special (getD s (i + 1) 0)) refl
@@ -94,53 +95,53 @@ module _ (s : List ℕ) (i : ℕ) (h : 0 < length (textOf (reading (drop i s))))
         by : (t : Bool) → special (getD s (i + 1) 0) ≡ t → textOf (reading (drop i s)) ≡ getD s (i + 1) 0 ∷ textOf (reading (drop (i + 2) s))
         by true e =
             let r = reading-pair s i text-here f text-two e in
-            ap textOf r ∙ text-push (getD s (i + 1) 0) (reading (drop (i + 2) s)) (subst (λ (x : Scanned). 0 < length (textOf x)) r h)
-        by false e = let z = ap (λ (x : Scanned). length (textOf x)) (reading-bad s i text-here f text-two e) in absurd (omega arith)
+            ap textOf r ∙ text-push (getD s (i + 1) 0) (reading (drop (i + 2) s)) (subst (λ (x : Got (List ℕ)). 0 < length (textOf x)) r h)
+        by false e = let z = ap (λ (x : Got (List ℕ)). length (textOf x)) (reading-bad s i text-here f text-two e) in absurd (omega arith)
 
 -- what judging a string answered decides what decoding it answers and leaves
-module _ (n room to : ℕ) (out : List ℕ) (x : Scanned) where
+module _ (n room to : ℕ) (out : List ℕ) (x : Got (List ℕ)) where
   pub refused-decoded : {r : Refusal} → located n x ≡ string-at.Refused r → string-at.Refused r ≡ decoded n room to x
   refused-decoded {r} = by x
     where
-      by : (x : Scanned) → located n x ≡ string-at.Refused r → string-at.Refused r ≡ decoded n room to x
-      by (Scanned.refused q) e = sym e
-      by (Scanned.got s rest) e = cc
+      by : (x : Got (List ℕ)) → located n x ≡ string-at.Refused r → string-at.Refused r ≡ decoded n room to x
+      by (Got.refused q) e = sym e
+      by (Got.got s rest) e = cc
 
   pub refused-left : {r : Refusal} → located n x ≡ string-at.Refused r → out ≡ left out to x
   refused-left {r} = by x
     where
-      by : (x : Scanned) → located n x ≡ string-at.Refused r → out ≡ left out to x
-      by (Scanned.refused q) e = refl
-      by (Scanned.got s rest) e = cc
+      by : (x : Got (List ℕ)) → located n x ≡ string-at.Refused r → out ≡ left out to x
+      by (Got.refused q) e = refl
+      by (Got.got s rest) e = cc
 
   pub located-length : {len next : ℕ} → located n x ≡ string-at.At len next → len ≡ length (textOf x)
   located-length {len} {next} = by x
     where
-      by : (x : Scanned) → located n x ≡ string-at.At len next → len ≡ length (textOf x)
-      by (Scanned.refused q) e = cc
-      by (Scanned.got s rest) e = cc
+      by : (x : Got (List ℕ)) → located n x ≡ string-at.At len next → len ≡ length (textOf x)
+      by (Got.refused q) e = cc
+      by (Got.got s rest) e = cc
 
   pub located-fits : {len next : ℕ} → located n x ≡ string-at.At len next → to + len ≤ room → string-at.At len next ≡ decoded n room to x
   located-fits {len} {next} = by x
     where
-      by : (x : Scanned) → located n x ≡ string-at.At len next → to + len ≤ room → string-at.At len next ≡ decoded n room to x
-      by (Scanned.refused q) e h = cc
-      by (Scanned.got s rest) e h =
+      by : (x : Got (List ℕ)) → located n x ≡ string-at.At len next → to + len ≤ room → string-at.At len next ≡ decoded n room to x
+      by (Got.refused q) e h = cc
+      by (Got.got s rest) e h =
           let a : length s ≡ len = cc in
           rw (le-ltb room (to + length s) (omega arith)) (sym e)
 
   pub located-not : {len next : ℕ} → located n x ≡ string-at.At len next → room < to + len → string-at.Refused NoRoom ≡ decoded n room to x
   located-not {len} {next} = by x
     where
-      by : (x : Scanned) → located n x ≡ string-at.At len next → room < to + len → string-at.Refused NoRoom ≡ decoded n room to x
-      by (Scanned.refused q) e h = cc
-      by (Scanned.got s rest) e h =
+      by : (x : Got (List ℕ)) → located n x ≡ string-at.At len next → room < to + len → string-at.Refused NoRoom ≡ decoded n room to x
+      by (Got.refused q) e h = cc
+      by (Got.got s rest) e h =
           let a : length s ≡ len = cc in
           rw (lt-ltb room (to + length s) (omega arith))
 
   pub located-left : {len next : ℕ} → located n x ≡ string-at.At len next → left out to x ≡ placed out to (textOf x)
   located-left {len} {next} = by x
     where
-      by : (x : Scanned) → located n x ≡ string-at.At len next → left out to x ≡ placed out to (textOf x)
-      by (Scanned.refused q) e = cc
-      by (Scanned.got s rest) e = refl
+      by : (x : Got (List ℕ)) → located n x ≡ string-at.At len next → left out to x ≡ placed out to (textOf x)
+      by (Got.refused q) e = cc
+      by (Got.got s rest) e = refl

@@ -2,11 +2,11 @@
 use mathlib.Core.Path.{_≡_, refl, subst, sym, ap, _∙_}
 use mathlib.Core.List.{List, [], _∷_, _++_}
 use mathlib.Core.Bool.{Bool, true, false}
-use Prim.Native.Nat.{ℕ, suc, _+_, _≤_, _<_}
+use Prim.Native.Nat.{ℕ, zero, suc, _+_, _-_, _≤_, _<_}
 use native.Mathlib.Numerals.{add-one}
 use native.Mathlib.Omega.{arith}
-use lib.ListN.{length, drop, getD, set, drop-of-length-le}
-use lib.Seq.{drop-cons}
+use lib.ListN.{length, take, drop, getD, set, drop-of-length-le, length-append}
+use lib.Seq.{drop-cons, drop-drop, set-set}
 use borrow.Author.Tests.{lt-ltb, le-ltb}
 use Rattle.wire.specs.Bytes.{if, over, placed}
 use Rattle.wire.specs.declared.Refusal.the-variants.{NoRoom}
@@ -28,6 +28,45 @@ string-length (b ∷ s) = by (special b) (string-length s)
     by true e = omega arith
     by false e = omega arith
 
+pub specials-split : (m : ℕ) (s : List ℕ) → specials s ≡ specials (take m s) + specials (drop m s)
+unfolding specials
+specials-split zero s = omega arith
+specials-split (suc m) [] = refl
+specials-split (suc m) (b ∷ s) = by (special b) (specials-split m s)
+  where
+    by : (t : Bool) → specials s ≡ specials (take m s) + specials (drop m s)
+        → if t (suc (specials s)) (specials s) ≡ if t (suc (specials (take m s))) (specials (take m s)) + specials (drop m s)
+    by true e = omega arith
+    by false e = e
+
+pub specials-within : (s : List ℕ) → specials s ≤ length s
+unfolding specials
+specials-within [] = omega arith
+specials-within (b ∷ s) = by (special b) (specials-within s)
+  where
+    by : (t : Bool) → specials s ≤ length s → if t (suc (specials s)) (specials s) ≤ suc (length s)
+    by true h = omega arith
+    by false h = omega arith
+
+-- the special bytes from i on, those up to `end` first
+pub specials-next : (s : List ℕ) (i end : ℕ) → i ≤ end → specials (drop i s) ≡ specials (take (end - i) (drop i s)) + specials (drop end s)
+specials-next s i end h =
+    let e : i + (end - i) ≡ end = omega arith in
+    specials-split (end - i) (drop i s) ∙ ap (λ (l : List ℕ). specials (take (end - i) (drop i s)) + specials l) (drop-drop (end - i) i s ∙ ap (λ (n : ℕ). drop n s) e)
+
+-- a text with no special byte, and the 00
+string-plain-all : (s : List ℕ) → specials s ≡ 0 → string s ≡ s ++ 0 ∷ []
+unfolding string specials
+string-plain-all [] e = refl
+string-plain-all (b ∷ s) e = by (special b) (string-plain-all s) e
+  where
+    by : (t : Bool) → (specials s ≡ 0 → string s ≡ s ++ 0 ∷ []) → if t (suc (specials s)) (specials s) ≡ 0 → if t (255 ∷ b ∷ string s) (b ∷ string s) ≡ b ∷ (s ++ 0 ∷ [])
+    by true f e = absurd (omega arith)
+    by false f e = ap (λ (l : List ℕ). b ∷ l) (f e)
+
+pub string-clean : (s : List ℕ) → length (string s) ≡ length s + 1 → string s ≡ s ++ 0 ∷ []
+string-clean s e = let n = string-length s in string-plain-all s (omega arith)
+
 pub specials-end : (s : List ℕ) (i : ℕ) → length s ≤ i → specials (drop i s) ≡ 0
 unfolding specials
 specials-end s i h = ap specials (drop-of-length-le s h)
@@ -41,15 +80,34 @@ module _ (s : List ℕ) (i : ℕ) (h : i < length s) where
   unfolding specials
   specials-special e = ap specials (here s i h) ∙ rw e (omega arith)
 
+  pub specials-plain : special (getD s i 0) ≡ false → specials (drop i s) ≡ specials (drop (i + 1) s)
+  unfolding specials
+  specials-plain e = ap specials (here s i h) ∙ rw e
+
   pub string-special : special (getD s i 0) ≡ true → string (drop i s) ≡ 255 ∷ getD s i 0 ∷ string (drop (i + 1) s)
   unfolding string
   string-special e = ap string (here s i h) ∙ rw e
 
+  pub string-plain : special (getD s i 0) ≡ false → string (drop i s) ≡ getD s i 0 ∷ string (drop (i + 1) s)
+  unfolding string
+  string-plain e = ap string (here s i h) ∙ rw e
+
 pub put-one : (d : List ℕ) (at x : ℕ) → at + 1 ≤ length d → set d at x ≡ placed d at (x ∷ [])
 put-one d at x h = over-sets d at (x ∷ []) h ∙ sym (placed-fits d at (x ∷ []) h)
 
-pub put-two : (d : List ℕ) (at x y : ℕ) → at + 2 ≤ length d → set (set d at x) (at + 1) y ≡ placed d at (x ∷ y ∷ [])
+put-two : (d : List ℕ) (at x y : ℕ) → at + 2 ≤ length d → set (set d at x) (at + 1) y ≡ placed d at (x ∷ y ∷ [])
 put-two d at x y h = ap (λ (n : ℕ). set (set d at x) n y) (add-one at) ∙ over-sets d at (x ∷ y ∷ []) h ∙ sym (placed-fits d at (x ∷ y ∷ []) h)
+
+-- the loop of `store_few`: an FF is stored, and then the byte behind it or in its place
+pub ahead-pair : {t d : List ℕ} {to b : ℕ} {text rest : List ℕ} (k : ℕ) → text ≡ 255 ∷ b ∷ rest → Ahead t d to text → k ≡ to + 1 → Ahead t (set (set d to 255) k b) (k + 1) rest
+ahead-pair {t} {d} {to} {b} {text} {rest} k e a q =
+    let f : Ahead t d to ((255 ∷ b ∷ []) ++ rest) = subst (Ahead t d to) e a in
+    step (255 ∷ b ∷ []) (k + 1) f (ap (λ (n : ℕ). set (set d to 255) n b) q ∙ put-two d to 255 b (omega arith)) (omega arith)
+
+pub ahead-over : {t d : List ℕ} {to b : ℕ} {text rest : List ℕ} (k : ℕ) → text ≡ b ∷ rest → Ahead t d to text → k ≡ to → Ahead t (set (set d to 255) k b) (k + 1) rest
+ahead-over {t} {d} {to} {b} {text} {rest} k e a q =
+    let f : Ahead t d to ((b ∷ []) ++ rest) = subst (Ahead t d to) e a in
+    step (b ∷ []) (k + 1) f (ap (λ (n : ℕ). set (set d to 255) n b) q ∙ set-set d to 255 b ∙ put-one d to b (omega arith)) (omega arith)
 
 -- what writing answers
 module _ (room at : ℕ) (s : List ℕ) where
@@ -75,3 +133,13 @@ ahead-none {rest = x ∷ rest} a e = absurd (omega arith)
 -- a run of what is ahead was written, up to k
 pub ahead-run : {t d e text rest : List ℕ} {at : ℕ} (r : List ℕ) → text ≡ r ++ rest → (k : ℕ) → Ahead t d at text → e ≡ placed d at r → k ≡ at + length r → Ahead t e k rest
 ahead-run {t} {d} {e} {text} {rest} {at} r q k a p z = step r k (subst (Ahead t d at) q a) p z
+
+-- what is ahead now makes of the output what was ahead made of it
+pub ahead-on : {t d e text rest : List ℕ} {at j k : ℕ} → Ahead t d at text → over e j rest ≡ over d at text → k ≡ j → k + length rest ≤ length e → Ahead t e k rest
+ahead-on {e = e} {rest = rest} a p q f = record { makes = ap (λ (m : ℕ). over e m rest) q ∙ p ∙ a .makes; fits = f }
+
+pub ahead-put : {t d e text rest : List ℕ} {at : ℕ} (r : List ℕ) → text ≡ r ++ rest → (k : ℕ) → Ahead t d at text → e ≡ over d at r → k ≡ at + length r → Ahead t e k rest
+ahead-put {d = d} {rest = rest} {at = at} r q k a p z =
+    let l = ap length q ∙ length-append r rest in
+    let f = a .fits in
+    ahead-run r q k a (p ∙ sym (placed-fits d at r (omega arith))) z

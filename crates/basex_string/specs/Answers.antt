@@ -1,12 +1,12 @@
 -- What writing, judging and decoding a string answer, and what they leave in the lent output.
 use mathlib.Core.List.{List, [], _∷_}
 use Prim.Native.Nat.{ℕ, suc, _+_, _-_}
-use lib.Dec.{ltb}
+use lib.Dec.{eqb, ltb}
 use lib.ListN.{length}
 use Rattle.wire.specs.Bytes.{if, placed}
 use Rattle.wire.specs.declared.Refusal.the-variants.{NoRoom}
 use Rattle.basex_string.specs.Strings.{special, string}
-use Rattle.basex_string.specs.Scan.{Scanned}
+use Rattle.wire.specs.Fields.{Got}
 use Rattle.basex_string.specs.declared.Spelled.{Spelled}
 use Rattle.basex_string.specs.declared.Spelled.the-variants as spelled
 use Rattle.basex_string.specs.declared.StringAt.{StringAt}
@@ -22,26 +22,32 @@ unfoldable pub run : List ℕ → ℕ
 run [] = 0
 run (b ∷ s) = if (special b) 0 (suc (run s))
 
+-- how many pairs stand in front, an FF and what it escapes
+unfoldable pub pairs : List ℕ → ℕ
+pairs [] = 0
+pairs (a ∷ []) = 0
+pairs (a ∷ b ∷ s) = if (eqb a 255) (if (special b) (suc (pairs s)) 0) 0
+
 -- writing text from `at` on, in an output of so many bytes: 10 where it does not fit
 abbrev pub spelling : ℕ → ℕ → List ℕ → Spelled
 spelling room at text = if (ltb room (at + length (string text))) (spelled.Refused NoRoom) (spelled.Bytes (length (string text)))
 
 -- of n bytes, those behind the string are left: how long it is, and where they start
-abbrev pub located : ℕ → Scanned → StringAt
-located n (Scanned.refused r) = string-at.Refused r
-located n (Scanned.got s rest) = string-at.At (length s) (n - length rest)
+abbrev pub located : ℕ → Got (List ℕ) → StringAt
+located n (Got.refused r) = string-at.Refused r
+located n (Got.got s rest) = string-at.At (length s) (n - length rest)
 
 -- the same with the string put into an output of so many bytes from `to` on: "with 10 last"
-abbrev pub decoded : ℕ → ℕ → ℕ → Scanned → StringAt
-decoded n room to (Scanned.refused r) = string-at.Refused r
-decoded n room to (Scanned.got s rest) = if (ltb room (to + length s)) (string-at.Refused NoRoom) (string-at.At (length s) (n - length rest))
+abbrev pub decoded : ℕ → ℕ → ℕ → Got (List ℕ) → StringAt
+decoded n room to (Got.refused r) = string-at.Refused r
+decoded n room to (Got.got s rest) = if (ltb room (to + length s)) (string-at.Refused NoRoom) (string-at.At (length s) (n - length rest))
 
 -- the output then
-abbrev pub left : List ℕ → ℕ → Scanned → List ℕ
-left out to (Scanned.refused r) = out
-left out to (Scanned.got s rest) = placed out to s
+abbrev pub left : List ℕ → ℕ → Got (List ℕ) → List ℕ
+left out to (Got.refused r) = out
+left out to (Got.got s rest) = placed out to s
 
 -- the string that was read, nothing where there is none
-abbrev pub textOf : Scanned → List ℕ
-textOf (Scanned.refused r) = []
-textOf (Scanned.got s rest) = s
+abbrev pub textOf : Got (List ℕ) → List ℕ
+textOf (Got.refused r) = []
+textOf (Got.got s rest) = s

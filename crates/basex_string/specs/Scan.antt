@@ -4,24 +4,19 @@ use mathlib.Core.List.{List, [], _∷_}
 use Prim.Native.Nat.{ℕ}
 use lib.Dec.{eqb}
 use Rattle.wire.specs.Bytes.{if}
-use Rattle.wire.specs.declared.Refusal.{Refusal}
+use Rattle.wire.specs.Fields.{Got, Field}
 use Rattle.wire.specs.declared.Refusal.the-variants.{MoreBytes, BadEscape}
 use Rattle.basex_string.specs.Strings.{special}
 
--- a refusal, or the string and what stands behind it
-pub data Scanned : Type 0 where
-  refused : Refusal → Scanned
-  got : List ℕ → List ℕ → Scanned
-
-abbrev pub push : ℕ → Scanned → Scanned
-push b (Scanned.refused r) = Scanned.refused r
-push b (Scanned.got s rest) = Scanned.got (b ∷ s) rest
+abbrev pub push : ℕ → Got (List ℕ) → Got (List ℕ)
+push b (Got.refused r) = Got.refused r
+push b (Got.got s rest) = Got.got (b ∷ s) rest
 
 -- the first says whether an FF was read that escapes the next byte
-unfoldable pub scan : Bool → List ℕ → Scanned
-scan e [] = Scanned.refused MoreBytes
-scan true (b ∷ s) = if (special b) (push b (scan false s)) (Scanned.refused BadEscape)
-scan false (b ∷ s) = if (eqb b 0) (Scanned.got [] s) (if (eqb b 255) (scan true s) (push b (scan false s)))
+unfoldable pub scan : Bool → Field (List ℕ)
+scan e [] = Got.refused MoreBytes
+scan true (b ∷ s) = if (special b) (push b (scan false s)) (Got.refused BadEscape)
+scan false (b ∷ s) = if (eqb b 0) (Got.got [] s) (if (eqb b 255) (scan true s) (push b (scan false s)))
 
-abbrev pub reading : List ℕ → Scanned
+abbrev pub reading : Field (List ℕ)
 reading = scan false

@@ -1,14 +1,17 @@
 // BaseX strings: written into lent output, judged where they stand, and decoded into lent output.
 // All of a string or nothing: on a refusal the output stays as it was.
 ghost use mathlib.Core.Path.{_≡_};
-ghost use Prim.Native.Nat.{_+_, _≤_};
+ghost use mathlib.Core.List.{[], _∷_, _++_};
+ghost use Prim.Native.Nat.{_+_, _*_, _-_, _≤_, _<_, min};
 ghost use lib.Dec.{leb};
-ghost use lib.ListN.{length, drop};
+ghost use lib.ListN.{length, take, drop, getD};
 ghost use Rattle.wire.specs.Bytes.{over, placed};
 ghost use Rattle.basex_string.specs.Strings.{special, string};
 ghost use Rattle.basex_string.specs.Scan.{reading};
-ghost use Rattle.basex_string.specs.Answers.{specials, run, spelling, located, decoded, left, textOf};
+ghost use Rattle.basex_string.specs.Answers.{run, pairs, spelling, located, decoded, left, textOf};
 use wire::Refusal;
+
+mod count;
 
 // How many bytes were written, or why none was.
 pub enum Spelled {
@@ -65,78 +68,133 @@ fn skip_blocks(s: &[u8], from: usize) -> usize
     at
 }
 
-// Where the plain bytes from `from` on end: at a special byte or with the slice.
-fn run_end(s: &[u8], from: usize) -> usize
-    ensures { λ r. ⌜ r ≡ from + run (drop from (now (s .entry))) ⌝ }
+// Past plain bytes, sixteen at most: the compiler writes so short a loop out.
+fn few_end(s: &[u8], from: usize) -> usize
+    ensures { λ r. ⌜ r ≡ from + min 16 (run (drop from (now (s .entry)))) ⌝ }
 {
-    let mut at = skip_blocks(s, from);
+    let mut at = from;
     while at < s.len() {
         if is_special(s[at]) {
             return at;
         }
         at += 1;
+        if at - from == 16 {
+            return at;
+        }
     }
     at
 }
 
-fn count_specials(text: &[u8]) -> usize
-    ensures { λ r. ⌜ (r ≡ specials (now (text .entry))) × (r ≤ length (now (text .entry))) ⌝ }
+// Past plain bytes: a few one by one, so that a short run costs no more than its bytes, then blocks.
+fn run_end(s: &[u8], from: usize) -> usize
+    ensures { λ r. ⌜ (from + min 16 (run (drop from (now (s .entry)))) ≤ r) × (r ≤ from + run (drop from (now (s .entry)))) ⌝ }
+{
+    let few = few_end(s, from);
+    if few - from < 16 {
+        return few;
+    }
+    skip_blocks(s, few)
+}
+
+// How many pairs stand at `from`, eight at most. Where one stands, others often follow.
+fn pairs_at(s: &[u8], from: usize) -> usize
+    requires { ⌜ from ≤ length (now s) ⌝ }
+    ensures { λ r. ⌜ r ≤ pairs (drop from (now (s .entry))) ⌝ }
 {
     let mut n: usize = 0;
-    let mut i: usize = 0;
-    while i < text.len() {
-        if is_special(text[i]) {
+    let mut at = from;
+    while 2 <= s.len() - at {
+        if s[at] != 255 {
+            return n;
+        }
+        if is_special(s[at + 1]) {
             n += 1;
-            i += 1;
+            at += 2;
         } else {
-            i = run_end(text, i);
+            return n;
+        }
+        if n == 8 {
+            return n;
         }
     }
     n
 }
 
-// How many bytes a string takes: an FF for each special byte, and the 00.
-fn encoded_len(text: &[u8]) -> usize
+// How many bytes a text takes as a string: an FF for each special byte, and the 00.
+pub fn string_len(text: &[u8]) -> usize
     ensures { λ r. ⌜ r ≡ length (string (now (text .entry))) ⌝ }
 {
-    text.len() + count_specials(text) + 1
+    text.len() + count::count_specials(text) + 1
 }
 
-// Special bytes go in pairs, plain ones run by run, each in one move.
+// A part of a text, byte by byte, and a 00 behind it, whose place is the answer. An FF is stored for
+// every byte, and a plain byte takes its place: no branch, which the processor could guess wrong.
+fn store_few(out: &mut [u8], at: usize, part: &[u8]) -> usize
+    requires { ⌜ at + length (string (now part)) ≤ length (now out) ⌝ }
+    ensures { λ r. ⌜ (r + 1 ≡ at + length (string (now (part .entry)))) × (now (out .exit) ≡ over (now (out .entry)) at (string (now (part .entry)))) ⌝ }
+{
+    let mut to = at;
+    let mut i: usize = 0;
+    while i < part.len() {
+        let b = part[i];
+        out[to] = 255;
+        if is_special(b) {
+            to += 1;
+        }
+        out[to] = b;
+        to += 1;
+        i += 1;
+    }
+    out[to] = 0;
+    to
+}
+
+// Blocks of plain bytes go in one move, others byte by byte. The 00 behind a part is written over by
+// what follows it.
 fn store_string(out: &mut [u8], at: usize, text: &[u8])
     requires { ⌜ at + length (string (now text)) ≤ length (now out) ⌝ }
     ensures { λ _. ⌜ now (out .exit) ≡ over (now (out .entry)) at (string (now (text .entry))) ⌝ }
 {
     let mut to = at;
     let mut i: usize = 0;
-    while i < text.len() {
-        let b = text[i];
-        if is_special(b) {
-            out[to] = 255;
-            out[to + 1] = b;
-            to += 2;
-            i += 1;
-        } else {
-            let end = run_end(text, i);
+    while 16 <= text.len() - i {
+        let end = i + 16;
+        if plain_block(text, i) {
             wire::put_bytes(out, to, &text[i..end]);
-            to += end - i;
+            to += 16;
+            i = end;
+        } else {
+            to = store_few(out, to, &text[i..end]);
             i = end;
         }
     }
-    out[to] = 0;
+    store_few(out, to, &text[i..]);
+}
+
+// A text with no special byte.
+fn store_plain(out: &mut [u8], at: usize, text: &[u8])
+    requires { ⌜ at + length (now text) + 1 ≤ length (now out) ⌝ }
+    ensures { λ _. ⌜ now (out .exit) ≡ over (now (out .entry)) at (now (text .entry) ++ 0 ∷ []) ⌝ }
+{
+    wire::put_bytes(out, at, text);
+    out[at + text.len()] = 0;
 }
 
 // The text as a string, from `at` on.
 pub fn write_string(out: &mut [u8], at: usize, text: &[u8]) -> Spelled
     ensures { λ r. ⌜ (r ≡ spelling (length (now (out .entry))) at (now (text .entry))) × (now (out .exit) ≡ placed (now (out .entry)) at (string (now (text .entry)))) ⌝ }
 {
-    let n = encoded_len(text);
+    let n = string_len(text);
     let room = out.len();
     if room < at {
         return Spelled::Refused(Refusal::NoRoom);
     }
     if room - at < n {
         return Spelled::Refused(Refusal::NoRoom);
+    }
+    if n == text.len() + 1 {
+        store_plain(out, at, text);
+        return Spelled::Bytes(n);
     }
     store_string(out, at, text);
     Spelled::Bytes(n)
@@ -158,8 +216,9 @@ pub fn string_at(bytes: &[u8], at: usize) -> StringAt
                 return StringAt::Refused(Refusal::MoreBytes);
             }
             if is_special(bytes[i + 1]) {
-                len += 1;
-                i += 2;
+                let pairs = 1 + pairs_at(bytes, i + 2);
+                len += pairs;
+                i += 2 * pairs;
             } else {
                 return StringAt::Refused(Refusal::BadEscape);
             }
@@ -172,8 +231,58 @@ pub fn string_at(bytes: &[u8], at: usize) -> StringAt
     StringAt::Refused(Refusal::MoreBytes)
 }
 
+// Plain bytes from `from` on, sixteen at most, one by one; the answer is where they end.
+fn put_few(bytes: &[u8], from: usize, out: &mut [u8], to: usize) -> usize
+    requires { ⌜ (from + run (drop from (now bytes)) < length (now bytes)) × (to + run (drop from (now bytes)) ≤ length (now out)) ⌝ }
+    ensures { λ r. ⌜ (r ≡ from + min 16 (run (drop from (now (bytes .entry))))) × (now (out .exit) ≡ over (now (out .entry)) to (take (r - from) (drop from (now (bytes .entry))))) ⌝ }
+{
+    let mut n: usize = 0;
+    while n < 16 {
+        let b = bytes[from + n];
+        if is_special(b) {
+            return from + n;
+        }
+        out[to + n] = b;
+        n += 1;
+    }
+    from + 16
+}
+
+// Plain bytes from `from` on, all of them where they are few, else blocks of them in one move.
+fn put_run(bytes: &[u8], from: usize, out: &mut [u8], to: usize) -> usize
+    requires { ⌜ (from + run (drop from (now bytes)) < length (now bytes)) × (to + run (drop from (now bytes)) ≤ length (now out)) ⌝ }
+    ensures { λ r. ⌜ (from + min 16 (run (drop from (now (bytes .entry)))) ≤ r) × (r ≤ from + run (drop from (now (bytes .entry)))) × (now (out .exit) ≡ over (now (out .entry)) to (take (r - from) (drop from (now (bytes .entry))))) ⌝ }
+{
+    let few = put_few(bytes, from, out, to);
+    if few - from < 16 {
+        return few;
+    }
+    let end = skip_blocks(bytes, few);
+    wire::put_bytes(out, to + 16, &bytes[few..end]);
+    end
+}
+
+// What pairs from `from` on escape, eight at most; the answer is how many.
+fn put_pairs(bytes: &[u8], from: usize, out: &mut [u8], to: usize, most: usize) -> usize
+    requires { ⌜ (most ≡ length (textOf (reading (drop from (now bytes))))) × (to + most ≤ length (now out)) × (0 < most) × (getD (now bytes) from 0 ≡ 255) ⌝ }
+    ensures { λ r. ⌜ (0 < r) × (from + 2 * r ≤ length (now (bytes .entry))) × (r + length (textOf (reading (drop (from + 2 * r) (now (bytes .entry))))) ≡ most) × (over (now (out .exit)) (to + r) (textOf (reading (drop (from + 2 * r) (now (bytes .entry))))) ≡ over (now (out .entry)) to (textOf (reading (drop from (now (bytes .entry)))))) ⌝ }
+{
+    let mut n: usize = 0;
+    while n < most {
+        if bytes[from + 2 * n] != 255 {
+            return n;
+        }
+        out[to + n] = bytes[from + 2 * n + 1];
+        n += 1;
+        if n == 8 {
+            return n;
+        }
+    }
+    n
+}
+
 // A string that was judged and has len bytes: its end and its pairs need no test.
-fn store_text(bytes: &[u8], at: usize, out: &mut [u8], to: usize, len: usize)
+fn store_escaped(bytes: &[u8], at: usize, out: &mut [u8], to: usize, len: usize)
     requires { ⌜ (len ≡ length (textOf (reading (drop at (now bytes))))) × (to + len ≤ length (now out)) ⌝ }
     ensures { λ _. ⌜ now (out .exit) ≡ over (now (out .entry)) to (textOf (reading (drop at (now (bytes .entry))))) ⌝ }
 {
@@ -181,15 +290,27 @@ fn store_text(bytes: &[u8], at: usize, out: &mut [u8], to: usize, len: usize)
     let mut n: usize = 0;
     while n < len {
         if bytes[i] == 255 {
-            out[to + n] = bytes[i + 1];
-            n += 1;
-            i += 2;
+            let pairs = put_pairs(bytes, i, out, to + n, len - n);
+            n += pairs;
+            i += 2 * pairs;
         } else {
-            let end = run_end(bytes, i);
-            wire::put_bytes(out, to + n, &bytes[i..end]);
+            let end = put_run(bytes, i, out, to + n);
             n += end - i;
             i = end;
         }
+    }
+}
+
+// A string that was judged. One with no escape is its text and the 00.
+fn store_text(bytes: &[u8], at: usize, out: &mut [u8], to: usize, len: usize, next: usize)
+    requires { ⌜ (located (length (now bytes)) (reading (drop at (now bytes))) ≡ StringAt.At len next) × (to + len ≤ length (now out)) ⌝ }
+    ensures { λ _. ⌜ now (out .exit) ≡ over (now (out .entry)) to (textOf (reading (drop at (now (bytes .entry))))) ⌝ }
+{
+    let end = next - 1;
+    if end - at == len {
+        wire::put_bytes(out, to, &bytes[at..end]);
+    } else {
+        store_escaped(bytes, at, out, to, len);
     }
 }
 
@@ -208,7 +329,7 @@ pub fn decode(bytes: &[u8], at: usize, out: &mut [u8], to: usize) -> StringAt
             if room - to < len {
                 return StringAt::Refused(Refusal::NoRoom);
             }
-            store_text(bytes, at, out, to, len);
+            store_text(bytes, at, out, to, len, next);
             StringAt::At { len, next }
         }
     }

@@ -35,11 +35,7 @@ returns-2 c =
     (located-not (length (a .bytes .now)) (length (a .out .now)) (a .to) (a .out .now) x e (omega arith), sym (located-left (length (a .bytes .now)) 0 (a .to) (a .out .now) x e ∙ placed-not (a .out .now) (a .to) (textOf x) (omega arith)))
 
 store-text-requires : tie.Need-store-text-requires
-store-text-requires c κs =
-    let a = c .before .before .before .before .before .before .before .before .before .args in
-    let x = reading (drop (a .at) (a .bytes .now)) in
-    let e = sym (c .before .before .before .before .before .before .string-at .ensures) ∙ c .before .before .before .before .found2 .given .1 in
-    (located-length (length (a .bytes .now)) 0 0 (a .out .now) x e, omega arith)
+store-text-requires c κs = (sym (c .before .before .before .before .before .before .string-at .ensures) ∙ c .before .before .before .before .found2 .given .1, omega arith)
 
 returns-3 : tie.Need-returns-3
 returns-3 c =

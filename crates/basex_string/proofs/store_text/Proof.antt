@@ -1,128 +1,86 @@
-use mathlib.Core.Path.{_≡_, refl, ap, _∙_}
-use Prim.Native.Nat.{_+_, _-_}
+use mathlib.Core.Path.{sym, ap, _∙_}
+use Prim.Native.Nat.{_-_}
 use native.Mathlib.Omega.{arith}
-use lib.ListN.{length, take, drop, length-set}
+use lib.ListN.{length, take, drop, length-drop}
+use lib.Seq.{length-take-le}
 use borrow.Author.Needs.{needs}
 use Rattle.wire.specs.Bytes.{over}
-use Rattle.wire.proofs.Over.{Ahead}
+use Rattle.wire.proofs.Over.{placed-fits}
 use Rattle.basex_string.specs.Scan.{reading}
-use Rattle.basex_string.specs.Answers.{textOf}
-use Rattle.basex_string.proofs.Steps.{ahead-from, ahead-one, ahead-none, ahead-run}
-use Rattle.basex_string.proofs.Scans.{text-here, text-two, text-pair}
-use Rattle.basex_string.proofs.Runs.{run-fits, run-size, run-text, run-text-size, text-goes}
+use Rattle.basex_string.proofs.Scans.{located-length}
+use Rattle.basex_string.proofs.Laws.{located-next, located-plain}
 use Rattle.basex_string.proofs.store_text.Statement.{statement}
 use Rattle.basex_string.proofs.store_text.Tie as tie
 
-abbrev Inv-loop : tie.InvT-loop
-Inv-loop bytes at out₀ to len i₀ n₀ out i n =
-    (length out ≡ length out₀)
-    × ((n + length (textOf (reading (drop i bytes))) ≡ len) × Ahead (over out₀ to (textOf (reading (drop at bytes)))) out (to + n) (textOf (reading (drop i bytes))))
-
-abbrev μ-loop : tie.MeasureT-loop
-μ-loop bytes at out₀ to len i₀ n₀ out i n = len - n
-
-loop-holds : tie.Need-loop-holds Inv-loop μ-loop
-loop-holds c = (refl, (omega arith, ahead-from (c .before .before .args .out .now) (c .before .before .args .to) (textOf (reading (drop (c .before .before .args .at) (c .before .before .args .bytes .now)))) (omega arith)))
-
-shared-slice-read-if1 : tie.Need-shared-slice-read-if1 Inv-loop μ-loop
-shared-slice-read-if1 c = text-here (c .before .before .before .before .before .args .bytes .now) (c .before .before .loop .i) (omega arith)
-
-add-out : tie.Need-add-out Inv-loop μ-loop
-add-out c = let h = text-here (c .before .before .before .before .before .before .args .bytes .now) (c .before .before .before .loop .i) (omega arith) in omega arith
-
-shared-slice-read-out : tie.Need-shared-slice-read-out Inv-loop μ-loop
-shared-slice-read-out c = text-two (c .before .before .before .before .before .before .before .args .bytes .now) (c .before .before .before .before .loop .i) (omega arith) (c .before .if1 .taken)
-
-add-out-2 : tie.Need-add-out-2 Inv-loop μ-loop
-add-out-2 c = omega arith
-
-slice-write-out : tie.Need-slice-write-out Inv-loop μ-loop
-slice-write-out c = omega arith
-
-add-n : tie.Need-add-n Inv-loop μ-loop
-add-n c = omega arith
-
-add-i : tie.Need-add-i Inv-loop μ-loop
-add-i c = let h = text-two (c .before .before .before .before .before .before .before .args .bytes .now) (c .before .before .before .before .loop .i) (omega arith) (c .before .if1 .taken) in omega arith
-
-loop-less : tie.Need-loop-less Inv-loop μ-loop
-loop-less c = omega arith
-
-loop-again : tie.Need-loop-again Inv-loop μ-loop
-loop-again c =
-    let e = text-pair (c .before .before .before .before .before .before .before .args .bytes .now) (c .before .before .before .before .loop .i) (omega arith) (c .before .if1 .taken) in
-    let l = ap length e in
-    (simp length-set (c .before .before .before .before .loop .inv .0), (omega arith, ahead-one (c .before .before .before .before .before .before .before .args .to) (c .before .before .before .before .loop .n) e (c .before .before .before .before .loop .inv .1 .1)))
-
-run-end-requires : tie.Need-run-end-requires Inv-loop μ-loop
-run-end-requires c κs = search needs
-
-add-put-bytes : tie.Need-add-put-bytes Inv-loop μ-loop
-add-put-bytes c = omega arith
-
-sub-put-bytes : tie.Need-sub-put-bytes Inv-loop μ-loop
-sub-put-bytes c = omega arith
-
-part-put-bytes-start : tie.Need-part-put-bytes-start Inv-loop μ-loop
-part-put-bytes-start c = omega arith
-
-part-put-bytes-end : tie.Need-part-put-bytes-end Inv-loop μ-loop
-part-put-bytes-end c = let h = text-here (c .before .before .before .before .before .before .before .before .args .bytes .now) (c .before .before .before .before .before .loop .i) (omega arith) in let f = run-fits (c .before .before .before .before .before .before .before .before .args .bytes .now) (c .before .before .before .before .before .loop .i) (c .before .run-end .result) (c .before .run-end .ensures) (omega arith) in omega arith
-
-put-bytes-requires : tie.Need-put-bytes-requires Inv-loop μ-loop
-put-bytes-requires c κs = search needs
-
-sub-n : tie.Need-sub-n Inv-loop μ-loop
-sub-n c = omega arith
-
-add-n-2 : tie.Need-add-n-2 Inv-loop μ-loop
-add-n-2 c = let h = text-here (c .before .before .before .before .before .before .before .before .before .before .before .before .args .bytes .now) (c .before .before .before .before .before .before .before .before .before .loop .i) (omega arith) in let f = run-text-size (c .before .before .before .before .before .before .before .before .before .before .before .before .args .bytes .now) (c .before .before .before .before .before .before .before .before .before .loop .i) (c .before .before .before .before .before .run-end .result) (c .before .before .before .before .before .run-end .ensures) (omega arith) (omega arith) in omega arith
-
-loop-less-2 : tie.Need-loop-less-2 Inv-loop μ-loop
-loop-less-2 c =
-    let h = text-here (c .before .before .before .before .before .before .before .before .before .before .before .before .args .bytes .now) (c .before .before .before .before .before .before .before .before .before .loop .i) (omega arith) in
-    let g = text-goes (c .before .before .before .before .before .before .before .before .before .before .before .before .args .bytes .now) (c .before .before .before .before .before .before .before .before .before .loop .i) (omega arith) (c .before .before .before .before .before .before .if1 .left) in
-    let f = run-text-size (c .before .before .before .before .before .before .before .before .before .before .before .before .args .bytes .now) (c .before .before .before .before .before .before .before .before .before .loop .i) (c .before .before .before .before .before .run-end .result) (c .before .before .before .before .before .run-end .ensures) (omega arith) (omega arith) in
+sub-end : tie.Need-sub-end
+sub-end c =
+    let a = c .before .before .args in
+    let n = located-next (a .bytes .now) (a .at) (a .len) (a .next) (c .before .before .pre .0) in
     omega arith
 
-loop-again-2 : tie.Need-loop-again-2 Inv-loop μ-loop
-loop-again-2 c =
-    let h = text-here (c .before .before .before .before .before .before .before .before .before .before .before .before .args .bytes .now) (c .before .before .before .before .before .before .before .before .before .loop .i) (omega arith) in
-    let l = run-text-size (c .before .before .before .before .before .before .before .before .before .before .before .before .args .bytes .now) (c .before .before .before .before .before .before .before .before .before .loop .i) (c .before .before .before .before .before .run-end .result) (c .before .before .before .before .before .run-end .ensures) (omega arith) (omega arith) in
-    let z = run-size (c .before .before .before .before .before .before .before .before .before .before .before .before .args .bytes .now) (c .before .before .before .before .before .before .before .before .before .loop .i) (c .before .before .before .before .before .run-end .result) (c .before .before .before .before .before .run-end .ensures) (omega arith) in
-    (c .before .before .put-bytes .kept .0 ∙ c .before .before .before .before .before .before .before .before .before .loop .inv .0, (omega arith, ahead-run (take (c .before .before .before .before .before .run-end .result - c .before .before .before .before .before .before .before .before .before .loop .i) (drop (c .before .before .before .before .before .before .before .before .before .loop .i) (c .before .before .before .before .before .before .before .before .before .before .before .before .args .bytes .now))) (run-text (c .before .before .before .before .before .before .before .before .before .before .before .before .args .bytes .now) (c .before .before .before .before .before .before .before .before .before .loop .i) (c .before .before .before .before .before .run-end .result) (c .before .before .before .before .before .run-end .ensures) (omega arith)) (c .before .before .before .before .before .before .before .before .before .before .before .before .args .to + (c .before .before .before .before .before .before .before .before .before .loop .n + (c .before .before .before .before .before .run-end .result - c .before .before .before .before .before .before .before .before .before .loop .i))) (c .before .before .before .before .before .before .before .before .before .loop .inv .1 .1) (c .before .before .put-bytes .ensures) (omega arith)))
+sub-if1 : tie.Need-sub-if1
+sub-if1 c =
+    let a = c .before .before .args in
+    let n = located-next (a .bytes .now) (a .at) (a .len) (a .next) (c .before .before .pre .0) in
+    omega arith
 
-same-length : tie.Need-same-length Inv-loop μ-loop
-same-length c = c .before .loop .inv .0
+sub-put-bytes : tie.Need-sub-put-bytes
+sub-put-bytes c =
+    let a = c .before .before .before .before .args in
+    let n = located-next (a .bytes .now) (a .at) (a .len) (a .next) (c .before .before .before .before .pre .0) in
+    omega arith
 
-returns : tie.Need-returns Inv-loop μ-loop
-returns c = ahead-none (c .before .loop .inv .1 .1) (omega arith)
+part-put-bytes-start : tie.Need-part-put-bytes-start
+part-put-bytes-start c =
+    let a = c .before .before .before .before .args in
+    let n = located-next (a .bytes .now) (a .at) (a .len) (a .next) (c .before .before .before .before .pre .0) in
+    omega arith
+
+part-put-bytes-end : tie.Need-part-put-bytes-end
+part-put-bytes-end c =
+    let a = c .before .before .before .before .args in
+    let n = located-next (a .bytes .now) (a .at) (a .len) (a .next) (c .before .before .before .before .pre .0) in
+    omega arith
+
+put-bytes-requires : tie.Need-put-bytes-requires
+put-bytes-requires c κs = search needs
+
+store-escaped-requires : tie.Need-store-escaped-requires
+store-escaped-requires c κs =
+    let a = c .before .before .before .before .args in
+    (located-length (length (a .bytes .now)) 0 0 (a .out .now) (reading (drop (a .at) (a .bytes .now))) (c .before .before .before .before .pre .0), omega arith)
+
+same-length : tie.Need-same-length
+same-length c = search needs
+
+returns : tie.Need-returns
+returns c =
+    let a = c .before .before .before .before .before .before .before .before .args in
+    let p = c .before .before .before .before .before .before .before .before .pre .0 in
+    let n = located-next (a .bytes .now) (a .at) (a .len) (a .next) p in
+    let m = a .next - 1 - a .at in
+    let d = length-drop (a .at) (a .bytes .now) in
+    let l = length-take-le m (drop (a .at) (a .bytes .now)) (omega arith) in
+    c .before .before .put-bytes .ensures ∙ placed-fits (a .out .now) (a .to) (take m (drop (a .at) (a .bytes .now))) (omega arith) ∙ ap (over (a .out .now) (a .to)) (located-plain (a .bytes .now) (a .at) (a .len) (a .next) p (c .before .before .before .before .before .if1 .taken))
+
+same-length-2 : tie.Need-same-length-2
+same-length-2 c = search needs
+
+returns-2 : tie.Need-returns-2
+returns-2 c = search needs
 
 pub store-text-spec : {M : Type 1} → statement M
 store-text-spec =
     tie.close
     (tie.spec
-    Inv-loop
-    μ-loop
-    loop-holds
-    shared-slice-read-if1
-    add-out
-    shared-slice-read-out
-    add-out-2
-    slice-write-out
-    add-n
-    add-i
-    loop-less
-    loop-again
-    run-end-requires
-    add-put-bytes
+    sub-end
+    sub-if1
     sub-put-bytes
     part-put-bytes-start
     part-put-bytes-end
     put-bytes-requires
-    sub-n
-    add-n-2
-    loop-less-2
-    loop-again-2
+    store-escaped-requires
     same-length
-    returns)
+    returns
+    same-length-2
+    returns-2)

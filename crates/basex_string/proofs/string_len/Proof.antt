@@ -1,8 +1,8 @@
 use native.Mathlib.Omega.{arith}
 use borrow.Author.Needs.{needs}
 use Rattle.basex_string.proofs.Steps.{string-length}
-use Rattle.basex_string.proofs.encoded_len.Statement.{statement}
-use Rattle.basex_string.proofs.encoded_len.Tie as tie
+use Rattle.basex_string.proofs.string_len.Statement.{statement}
+use Rattle.basex_string.proofs.string_len.Tie as tie
 
 count-specials-requires : tie.Need-count-specials-requires
 count-specials-requires c κs = search needs
@@ -16,5 +16,5 @@ add-result-2 c = search needs
 returns : tie.Need-returns
 returns c = omega (arith, string-length (c .before .before .args .text .now))
 
-pub encoded-len-spec : {M : Type 1} → statement M
-encoded-len-spec = tie.close (tie.spec count-specials-requires add-result add-result-2 returns)
+pub string-len-spec : {M : Type 1} → statement M
+string-len-spec = tie.close (tie.spec count-specials-requires add-result add-result-2 returns)

@@ -1,0 +1,136 @@
+use mathlib.Core.Path.{_≡_, refl, sym, _∙_}
+use mathlib.Core.List.{List}
+use Prim.Native.Nat.{ℕ, _+_, _-_}
+use native.Mathlib.Omega.{arith}
+use lib.ListN.{length, take, drop}
+use borrow.Author.Needs.{needs}
+use Rattle.wire.specs.Bytes.{over}
+use Rattle.wire.proofs.Over.{Ahead}
+use Rattle.basex_string.specs.Scan.{reading}
+use Rattle.basex_string.specs.Answers.{run, textOf}
+use Rattle.basex_string.proofs.Steps.{ahead-from, ahead-none, ahead-put, ahead-on}
+use Rattle.basex_string.proofs.Scans.{text-here}
+use Rattle.basex_string.proofs.Runs.{run-size, run-text, run-text-size, run-ends, text-goes}
+use Rattle.basex_string.proofs.store_escaped.Statement.{statement}
+use Rattle.basex_string.proofs.store_escaped.Tie as tie
+
+abbrev Inv-loop : tie.InvT-loop
+Inv-loop bytes at out₀ to len i₀ n₀ out i n =
+    (length out ≡ length out₀)
+    × ((n + length (textOf (reading (drop i bytes))) ≡ len) × Ahead (over out₀ to (textOf (reading (drop at bytes)))) out (to + n) (textOf (reading (drop i bytes))))
+
+abbrev μ-loop : tie.MeasureT-loop
+μ-loop bytes at out₀ to len i₀ n₀ out i n = len - n
+
+loop-holds : tie.Need-loop-holds Inv-loop μ-loop
+loop-holds c = (refl, (omega arith, ahead-from (c .before .before .args .out .now) (c .before .before .args .to) (textOf (reading (drop (c .before .before .args .at) (c .before .before .args .bytes .now)))) (omega arith)))
+
+shared-slice-read-if1 : tie.Need-shared-slice-read-if1 Inv-loop μ-loop
+shared-slice-read-if1 c = text-here (c .before .before .before .before .before .args .bytes .now) (c .before .before .loop .i) (omega arith)
+
+add-put-pairs : tie.Need-add-put-pairs Inv-loop μ-loop
+add-put-pairs c = omega arith
+
+sub-put-pairs : tie.Need-sub-put-pairs Inv-loop μ-loop
+sub-put-pairs c = omega arith
+
+put-pairs-requires : tie.Need-put-pairs-requires Inv-loop μ-loop
+put-pairs-requires c κs = (omega arith, omega arith, omega arith, c .before .if1 .taken)
+
+add-n : tie.Need-add-n Inv-loop μ-loop
+add-n c = omega arith
+
+mul-i : tie.Need-mul-i Inv-loop μ-loop
+mul-i c = omega arith
+
+add-i : tie.Need-add-i Inv-loop μ-loop
+add-i c = omega arith
+
+loop-less : tie.Need-loop-less Inv-loop μ-loop
+loop-less c = omega arith
+
+loop-again : tie.Need-loop-again Inv-loop μ-loop
+loop-again c =
+    let v = c .before .before .before .before .before .before .before .loop .inv in
+    let p = c .before .before .put-pairs in
+    let l = p .kept .1 .1 .0 in
+    (l ∙ v .0, (omega arith, ahead-on (v .1 .1) (p .ensures .3) (omega arith) (omega arith)))
+
+add-put-run : tie.Need-add-put-run Inv-loop μ-loop
+add-put-run c = omega arith
+
+put-run-requires : tie.Need-put-run-requires Inv-loop μ-loop
+put-run-requires c κs =
+    let s = c .before .before .before .before .before .before .before .args .bytes .now in
+    let i = c .before .before .before .before .loop .i in
+    let e = run-ends s i (omega arith) in
+    let f = run-text-size s i (i + run (drop i s)) (omega arith) (omega arith) (omega arith) (omega arith) in
+    (e, omega arith)
+
+sub-n : tie.Need-sub-n Inv-loop μ-loop
+sub-n c = omega arith
+
+add-n-2 : tie.Need-add-n-2 Inv-loop μ-loop
+add-n-2 c =
+    let s = c .before .before .before .before .before .before .before .before .before .before .args .bytes .now in
+    let i = c .before .before .before .before .before .before .before .loop .i in
+    let r = c .before .before .put-run .result in
+    let h = text-here s i (omega arith) in
+    let g = text-goes s i (omega arith) (c .before .before .before .before .if1 .left) in
+    let l = run-text-size s i r (omega arith) (omega arith) (omega arith) (omega arith) in
+    omega arith
+
+loop-less-2 : tie.Need-loop-less-2 Inv-loop μ-loop
+loop-less-2 c =
+    let s = c .before .before .before .before .before .before .before .before .before .before .args .bytes .now in
+    let i = c .before .before .before .before .before .before .before .loop .i in
+    let r = c .before .before .put-run .result in
+    let h = text-here s i (omega arith) in
+    let g = text-goes s i (omega arith) (c .before .before .before .before .if1 .left) in
+    let l = run-text-size s i r (omega arith) (omega arith) (omega arith) (omega arith) in
+    omega arith
+
+loop-again-2 : tie.Need-loop-again-2 Inv-loop μ-loop
+loop-again-2 c =
+    let s = c .before .before .before .before .before .before .before .before .before .before .args .bytes .now in
+    let i = c .before .before .before .before .before .before .before .loop .i in
+    let r = c .before .before .put-run .result in
+    let h = text-here s i (omega arith) in
+    let g = text-goes s i (omega arith) (c .before .before .before .before .if1 .left) in
+    let l = run-text-size s i r (omega arith) (omega arith) (omega arith) (omega arith) in
+    let v = c .before .before .before .before .before .before .before .loop .inv in
+    let x : List ℕ = take (r - i) (drop i s) in
+    let z = run-size s i r (omega arith) (omega arith) (omega arith) in
+    let t = run-text s i r (omega arith) (omega arith) (omega arith) in
+    (c .before .before .put-run .kept .1 .1 .0 ∙ v .0, (omega arith, ahead-put x t (c .before .before .before .before .before .before .before .before .before .before .args .to + (c .before .before .before .before .before .before .before .loop .n + (r - i))) (v .1 .1) (c .before .before .put-run .ensures .2) (omega arith)))
+
+same-length : tie.Need-same-length Inv-loop μ-loop
+same-length c = c .before .loop .inv .0
+
+returns : tie.Need-returns Inv-loop μ-loop
+returns c = ahead-none (c .before .loop .inv .1 .1) (omega arith)
+
+pub store-escaped-spec : {M : Type 1} → statement M
+store-escaped-spec =
+    tie.close
+    (tie.spec
+    Inv-loop
+    μ-loop
+    loop-holds
+    shared-slice-read-if1
+    add-put-pairs
+    sub-put-pairs
+    put-pairs-requires
+    add-n
+    mul-i
+    add-i
+    loop-less
+    loop-again
+    add-put-run
+    put-run-requires
+    sub-n
+    add-n-2
+    loop-less-2
+    loop-again-2
+    same-length
+    returns)
