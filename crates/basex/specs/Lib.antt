@@ -1,0 +1,4 @@
+pub mod Kinds
+pub mod Request
+pub mod Response
+pub mod Texts

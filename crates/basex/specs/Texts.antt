@@ -1,0 +1,58 @@
+-- Strings one behind the other: as they are written, and as they are read off the front.
+use mathlib.Core.Bool.{Bool}
+use mathlib.Core.List.{List, [], _∷_, _++_, flatten}
+use Prim.Native.Nat.{ℕ, zero, suc, _+_, _-_}
+use lib.Dec.{ltb, eqb}
+use lib.ListN.{length, drop, getD}
+use Rattle.wire.specs.Bytes.{if, over}
+use Rattle.wire.specs.Fields.{Got, Field, _>>=_, give}
+use Rattle.basex_string.specs.Strings.{string}
+use Rattle.basex_string.specs.Scan.{reading}
+use Rattle.basex.specs.declared.Ends.{Ends}
+use Rattle.basex.specs.declared.TwoAt.{TwoAt}
+use Rattle.basex.specs.declared.TwoAt.the-variants.{At, Refused}
+
+unfoldable pub strings : List (List ℕ) → List ℕ
+strings [] = []
+strings (t ∷ ts) = string t ++ strings ts
+
+-- n strings: "fields left to right"
+unfoldable pub texts : ℕ → Field (List (List ℕ))
+texts zero = give []
+texts (suc n) = do
+  t ← reading
+  ts ← texts n
+  give (t ∷ ts)
+
+-- how many bytes the text number k has, 0 where there is none
+abbrev pub lengthAt : List (List ℕ) → ℕ → ℕ
+lengthAt ts k = length (getD ts k [])
+
+-- of texts given to be written, those beyond the first n, which have no place, are empty
+abbrev pub unused : ℕ → List (List ℕ) → Bool
+unused n ts = eqb (length (flatten (drop n ts))) 0
+
+-- of n bytes from `at` on, up to two strings were read: how long each is, and where what stands behind starts
+abbrev pub twoAt : ℕ → ℕ → Got (List (List ℕ)) → TwoAt
+twoAt at n (Got.refused r) = Refused r
+twoAt at n (Got.got ts rest) = At (lengthAt ts 0) (lengthAt ts 1) (at + (n - length rest))
+
+-- texts put into an output: what it holds, where it is free again, and what is left to read
+pub record Stored : Type 0 where
+  pub out : List ℕ
+  pub to : ℕ
+  pub rest : List ℕ
+
+-- the text that was read put from `to` on, and what comes then; nothing where none was read or it does not fit
+abbrev pub onward : List ℕ → ℕ → List ℕ → Got (List ℕ) → (List ℕ → ℕ → List ℕ → Stored) → Stored
+onward out to s (Got.refused r) next = record { out = out; to = to; rest = s }
+onward out to s (Got.got t rest) next = if (ltb (length out) (to + length t)) (record { out = out; to = to; rest = s }) (next (over out to t) (to + length t) rest)
+
+-- the texts of up to n strings, one behind the other from `to` on, as far as they read well and fit
+unfoldable pub stored : ℕ → List ℕ → ℕ → List ℕ → Stored
+stored zero out to s = record { out = out; to = to; rest = s }
+stored (suc n) out to s = onward out to s (reading s) (stored n)
+
+-- of n bytes from `at` on, what is left to read starts there
+abbrev pub ends : ℕ → ℕ → Stored → Ends
+ends at n s = record { next = at + (n - length (s .rest)); to = s .to }

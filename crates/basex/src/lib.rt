@@ -1,0 +1,259 @@
+// The published BaseX kinds: the one table of requests, what the response to each is made of, and
+// strings that stand one behind the other.
+ghost use mathlib.Core.Path.{_≡_};
+ghost use Prim.Native.Nat.{_-_, min};
+ghost use lib.ListN.{length, drop};
+ghost use Rattle.basex.specs.Kinds.{kinds, findOf, rowByte, startsCommand, isCommand, ahead, behind, listed, isFull, idAllowed, itemStrings};
+ghost use Rattle.basex.specs.Texts.{texts, twoAt, stored, ends};
+use basex_string::StringAt;
+use wire::Refusal;
+
+// What the response to a request is made of; specs/Kinds.antt says so.
+pub enum Reply {
+    Command,
+    Stored,
+    Query,
+    Results,
+    Full,
+}
+
+// First byte, number of strings, response.
+pub struct Kind(pub u8, pub usize, pub Reply);
+
+// Document 01's list, COMMAND last, at the first of its first bytes.
+pub const KINDS: [Kind; 15] = [
+    Kind(0x00, 1, Reply::Query),
+    Kind(0x02, 1, Reply::Query),
+    Kind(0x03, 4, Reply::Query),
+    Kind(0x04, 1, Reply::Results),
+    Kind(0x05, 1, Reply::Query),
+    Kind(0x06, 1, Reply::Query),
+    Kind(0x07, 1, Reply::Query),
+    Kind(0x08, 2, Reply::Stored),
+    Kind(0x09, 2, Reply::Stored),
+    Kind(0x0C, 2, Reply::Stored),
+    Kind(0x0D, 2, Reply::Stored),
+    Kind(0x0E, 3, Reply::Query),
+    Kind(0x1E, 1, Reply::Query),
+    Kind(0x1F, 1, Reply::Full),
+    Kind(0x20, 1, Reply::Command),
+];
+
+fn table() -> [Kind; 15]
+    ensures { λ r. ⌜ r ≡ kinds ⌝ }
+{
+    KINDS
+}
+
+// What the table says of a request's first byte.
+pub enum Found {
+    Known(usize, Reply),
+    Unknown,
+}
+
+// Whether a COMMAND starts with the byte.
+pub fn starts_command(b: u8) -> bool
+    ensures { λ r. ⌜ r ≡ startsCommand b ⌝ }
+{
+    if 0x20 <= b { b <= 0xFE } else { false }
+}
+
+// Every byte from 20 to FE stands for COMMAND.
+fn row_byte(first: u8) -> u8
+    ensures { λ r. ⌜ r ≡ rowByte first ⌝ }
+{
+    if starts_command(first) { 0x20 } else { first }
+}
+
+// The number of strings and the response of the request that starts with the byte.
+pub fn find(first: u8) -> Found
+    ensures { λ r. ⌜ r ≡ findOf first ⌝ }
+{
+    let b = row_byte(first);
+    let t = table();
+    let mut i: usize = 0;
+    while i < 15 {
+        let k = t[i];
+        if k.0 == b {
+            let strings = k.1;
+            let reply = k.2;
+            return Found::Known(strings, reply);
+        }
+        i += 1;
+    }
+    Found::Unknown
+}
+
+// Whether the request is a COMMAND.
+pub fn is_command(reply: Reply) -> bool
+    ensures { λ r. ⌜ r ≡ isCommand reply ⌝ }
+{
+    match reply {
+        Reply::Command => true,
+        Reply::Stored => false,
+        Reply::Query => false,
+        Reply::Results => false,
+        Reply::Full => false,
+    }
+}
+
+// How many strings stand ahead of the status.
+pub fn strings_ahead(reply: Reply) -> usize
+    ensures { λ r. ⌜ r ≡ ahead reply ⌝ }
+{
+    match reply {
+        Reply::Command => 2,
+        Reply::Stored => 1,
+        Reply::Query => 1,
+        Reply::Results => 0,
+        Reply::Full => 0,
+    }
+}
+
+// How many strings stand behind the status.
+pub fn strings_behind(reply: Reply, status: u8) -> usize
+    ensures { λ r. ⌜ r ≡ behind reply status ⌝ }
+{
+    match reply {
+        Reply::Command => 0,
+        Reply::Stored => 0,
+        Reply::Query => status as usize,
+        Reply::Results => status as usize,
+        Reply::Full => status as usize,
+    }
+}
+
+// Whether the response has items.
+pub fn is_listed(reply: Reply) -> bool
+    ensures { λ r. ⌜ r ≡ listed reply ⌝ }
+{
+    match reply {
+        Reply::Command => false,
+        Reply::Stored => false,
+        Reply::Query => false,
+        Reply::Results => true,
+        Reply::Full => true,
+    }
+}
+
+// Whether its items have URI strings.
+pub fn is_full(reply: Reply) -> bool
+    ensures { λ r. ⌜ r ≡ isFull reply ⌝ }
+{
+    match reply {
+        Reply::Command => false,
+        Reply::Stored => false,
+        Reply::Query => false,
+        Reply::Results => false,
+        Reply::Full => true,
+    }
+}
+
+pub fn id_allowed(id: u8) -> bool
+    ensures { λ r. ⌜ r ≡ idAllowed id ⌝ }
+{
+    if id < 7 {
+        return false;
+    }
+    if id <= 15 {
+        return true;
+    }
+    if id < 32 {
+        return false;
+    }
+    id <= 83
+}
+
+// How many strings an item with the id has.
+pub fn item_strings(full: bool, id: u8) -> usize
+    ensures { λ r. ⌜ r ≡ itemStrings full id ⌝ }
+{
+    if full {
+        match id {
+            12 => 2,
+            14 => 2,
+            82 => 2,
+            _ => 1,
+        }
+    } else {
+        1
+    }
+}
+
+// The lengths of up to two strings that stand one behind the other, and where the next field starts.
+pub enum TwoAt {
+    At {
+        first: usize,
+        second: usize,
+        next: usize,
+    },
+    Refused(Refusal),
+}
+
+// Up to two strings from `at` on, judged; nothing is stored.
+pub fn two_at(bytes: &[u8], at: usize, n: usize) -> TwoAt
+    ensures { λ r. ⌜ r ≡ twoAt at (length (now (bytes .entry)) - at) (texts (min n 2) (drop at (now (bytes .entry)))) ⌝ }
+{
+    if n == 0 {
+        return TwoAt::At {
+            first: 0,
+            second: 0,
+            next: at,
+        };
+    }
+    match basex_string::string_at(bytes, at) {
+        StringAt::Refused(r) => TwoAt::Refused(r),
+        StringAt::At { len, next } => {
+            if n == 1 {
+                return TwoAt::At {
+                    first: len,
+                    second: 0,
+                    next,
+                };
+            }
+            match basex_string::string_at(bytes, next) {
+                StringAt::Refused(r) => TwoAt::Refused(r),
+                StringAt::At { len: second, next } => TwoAt::At {
+                    first: len,
+                    second,
+                    next,
+                },
+            }
+        }
+    }
+}
+
+// Where the next field starts, and where the output is free again.
+pub struct Ends {
+    pub next: usize,
+    pub to: usize,
+}
+
+// The texts of n strings from `at` on, one behind the other from `to` on. It stops at a string that
+// is refused or does not fit: whoever wants all or nothing judges first.
+pub fn put_texts(bytes: &[u8], at: usize, n: usize, out: &mut [u8], to: usize) -> Ends
+    ensures { λ r. ⌜ (r ≡ ends at (length (now (bytes .entry)) - at) (stored n (now (out .entry)) to (drop at (now (bytes .entry))))) × (now (out .exit) ≡ stored n (now (out .entry)) to (drop at (now (bytes .entry))) .out) ⌝ }
+{
+    let mut from = at;
+    let mut end = to;
+    let mut i: usize = 0;
+    while i < n {
+        match basex_string::decode(bytes, from, out, end) {
+            StringAt::Refused(_) => {
+                return Ends {
+                    next: from,
+                    to: end,
+                };
+            }
+            StringAt::At { len, next } => {
+                from = next;
+                end += len;
+                i += 1;
+            }
+        }
+    }
+    Ends {
+        next: from,
+        to: end,
+    }
+}

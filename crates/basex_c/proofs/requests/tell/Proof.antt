@@ -1,0 +1,65 @@
+use native.Mathlib.Omega.{arith}
+use lib.ListN.{length-set}
+use mathlib.Core.List.{[], _∷_}
+use mathlib.Core.Path.{refl}
+use Rattle.basex_c.proofs.Front.{front-sets}
+use borrow.Author.Needs.{needs}
+use Rattle.basex_c.proofs.requests.tell.Statement.{statement}
+use Rattle.basex_c.proofs.requests.tell.Tie as tie
+
+enum-known-answer : tie.Need-enum-known-answer
+enum-known-answer c = search needs
+
+refusal-code-requires : tie.Need-refusal-code-requires
+refusal-code-requires c κs = search needs
+
+enum-known-answer-2 : tie.Need-enum-known-answer-2
+enum-known-answer-2 c = search needs
+
+cast-told : tie.Need-cast-told
+cast-told c = search needs
+
+slice-write-told : tie.Need-slice-write-told
+slice-write-told c = search needs
+
+slice-write-told-2 : tie.Need-slice-write-told-2
+slice-write-told-2 c = simp length-set (omega arith)
+
+slice-write-told-3 : tie.Need-slice-write-told-3
+slice-write-told-3 c = simp length-set (omega arith)
+
+slice-write-told-4 : tie.Need-slice-write-told-4
+slice-write-told-4 c = simp length-set (omega arith)
+
+slice-write-told-5 : tie.Need-slice-write-told-5
+slice-write-told-5 c = simp length-set (omega arith)
+
+slice-write-told-6 : tie.Need-slice-write-told-6
+slice-write-told-6 c = search needs
+
+returns : tie.Need-returns
+returns c = rw (c .before .before .answer .given .1) (c .refusal-code .ensures, refl)
+
+same-length : tie.Need-same-length
+same-length c = search needs
+
+returns-2 : tie.Need-returns-2
+returns-2 c = rw (c .before .answer2 .given .1) (refl, front-sets (c .before .before .before .before .args .told .now) (_ ∷ _ ∷ _ ∷ _ ∷ _ ∷ _ ∷ []) (c .before .before .before .before .pre))
+
+pub tell-spec : {M : Type 1} → statement M
+tell-spec =
+    tie.close
+    (tie.spec
+    enum-known-answer
+    refusal-code-requires
+    enum-known-answer-2
+    cast-told
+    slice-write-told
+    slice-write-told-2
+    slice-write-told-3
+    slice-write-told-4
+    slice-write-told-5
+    slice-write-told-6
+    returns
+    same-length
+    returns-2)

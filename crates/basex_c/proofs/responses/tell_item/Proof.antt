@@ -1,0 +1,65 @@
+use mathlib.Core.List.{[], _∷_}
+use mathlib.Core.Path.{refl}
+use native.Mathlib.Omega.{arith}
+use lib.ListN.{length-set}
+use Rattle.basex_c.proofs.Front.{front-sets}
+use borrow.Author.Needs.{needs}
+use Rattle.basex_c.proofs.responses.tell_item.Statement.{statement}
+use Rattle.basex_c.proofs.responses.tell_item.Tie as tie
+
+enum-known-answer : tie.Need-enum-known-answer
+enum-known-answer c = search needs
+
+refusal-code-requires : tie.Need-refusal-code-requires
+refusal-code-requires c κs = search needs
+
+enum-told : tie.Need-enum-told
+enum-told c = search needs
+
+enum-known-answer-2 : tie.Need-enum-known-answer-2
+enum-known-answer-2 c = search needs
+
+cast-told : tie.Need-cast-told
+cast-told c = search needs
+
+slice-write-told : tie.Need-slice-write-told
+slice-write-told c = search needs
+
+slice-write-told-2 : tie.Need-slice-write-told-2
+slice-write-told-2 c = simp length-set (omega arith)
+
+slice-write-told-3 : tie.Need-slice-write-told-3
+slice-write-told-3 c = simp length-set (omega arith)
+
+slice-write-told-4 : tie.Need-slice-write-told-4
+slice-write-told-4 c = search needs
+
+returns : tie.Need-returns
+returns c = rw (c .before .before .answer .given .1) (c .refusal-code .ensures, refl)
+
+returns-2 : tie.Need-returns-2
+returns-2 c = rw (c .enum-told .given .1) (refl, refl)
+
+same-length : tie.Need-same-length
+same-length c = search needs
+
+returns-3 : tie.Need-returns-3
+returns-3 c = rw (c .before .answer2 .given .1) (refl, front-sets (c .before .before .before .before .args .told .now) (_ ∷ _ ∷ _ ∷ _ ∷ []) (c .before .before .before .before .pre))
+
+pub tell-item-spec : {M : Type 1} → statement M
+tell-item-spec =
+    tie.close
+    (tie.spec
+    enum-known-answer
+    refusal-code-requires
+    enum-told
+    enum-known-answer-2
+    cast-told
+    slice-write-told
+    slice-write-told-2
+    slice-write-told-3
+    slice-write-told-4
+    returns
+    returns-2
+    same-length
+    returns-3)

@@ -1,0 +1,1 @@
+// Laws of the BaseX requests and responses: no code.

@@ -1,0 +1,11 @@
+pub mod Behind
+pub mod Exact
+pub mod Judging
+pub mod Laws
+pub mod Parts
+pub mod Puts
+pub mod Refusals
+pub mod Storing
+pub mod Table
+pub mod Taken
+pub mod Written

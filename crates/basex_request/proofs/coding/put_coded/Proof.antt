@@ -1,0 +1,88 @@
+use mathlib.Core.Path.{refl}
+use mathlib.Core.List.{List, [], _∷_, _++_}
+use Prim.Native.Nat.{ℕ}
+use native.Mathlib.Omega.{arith}
+use lib.Dec.{ltb}
+use lib.ListN.{take}
+use borrow.Author.Needs.{needs}
+use Rattle.wire.specs.Bytes.{if, placed}
+use Rattle.wire.proofs.Over.{Ahead, step, last}
+use Rattle.basex_string.specs.Strings.{string}
+use Rattle.basex.specs.Request.{Request, encode}
+use Rattle.basex_request.proofs.Puts.{ahead-room, coded-ahead, coded-length}
+use Rattle.basex_request.proofs.Taken.{four, taken-length}
+use Rattle.basex_request.proofs.coding.put_coded.Statement.{statement}
+use Rattle.basex_request.proofs.coding.put_coded.Tie as tie
+
+-- the string of each text that is taken, and the output with the whole request
+abbrev first : tie.Start → List ℕ
+first s = if (ltb 0 (s .args .n)) (string (s .args .first .now)) []
+
+abbrev second : tie.Start → List ℕ
+second s = if (ltb 1 (s .args .n)) (string (s .args .second .now)) []
+
+abbrev third : tie.Start → List ℕ
+third s = if (ltb 2 (s .args .n)) (string (s .args .third .now)) []
+
+abbrev fourth : tie.Start → List ℕ
+fourth s = if (ltb 3 (s .args .n)) (string (s .args .fourth .now)) []
+
+abbrev whole : tie.Start → List ℕ
+whole s = placed (s .args .out .now) 0 (encode (Request.coded (s .args .kind) (take (s .args .n) (four (s .args .first .now) (s .args .second .now) (s .args .third .now) (s .args .fourth .now)))))
+
+put-byte-requires : tie.Need-put-byte-requires
+put-byte-requires c κs = search needs
+
+-- what is ahead before each string
+ahead : (c : tie.After-put-taken-arg) → Ahead (whole (c .before .before .before .before .before .before .before .before .before .before)) (c .before .before .before .put-byte .last .0) 1 (first (c .before .before .before .before .before .before .before .before .before .before) ++ (second (c .before .before .before .before .before .before .before .before .before .before) ++ (third (c .before .before .before .before .before .before .before .before .before .before) ++ fourth (c .before .before .before .before .before .before .before .before .before .before))))
+ahead c =
+    let s = c .before .before .before .before .before .before .before .before .before .before in
+    let a = s .args in
+    step (a .kind ∷ []) 1 (coded-ahead (a .first .now) (a .second .now) (a .third .now) (a .fourth .now) (a .kind) (a .n) (a .out .now) (s .pre)) (c .before .before .before .put-byte .ensures) refl
+
+ahead-2 : (c : tie.After-put-taken-arg2) → Ahead (whole (c .before .before .before .before .before .before .before .before .before .before .before .before .before .before)) (c .before .before .before .put-taken .last .0) (c .before .before .before .put-taken .result) (second (c .before .before .before .before .before .before .before .before .before .before .before .before .before .before) ++ (third (c .before .before .before .before .before .before .before .before .before .before .before .before .before .before) ++ (fourth (c .before .before .before .before .before .before .before .before .before .before .before .before .before .before))))
+ahead-2 c = step (first (c .before .before .before .before .before .before .before .before .before .before .before .before .before .before)) _ (ahead (c .before .before .before .before)) (c .before .before .before .put-taken .ensures .1) (c .before .before .before .put-taken .ensures .0)
+
+ahead-3 : (c : tie.After-put-taken-arg3) → Ahead (whole (c .before .before .before .before .before .before .before .before .before .before .before .before .before .before .before .before .before .before)) (c .before .before .before .put-taken2 .last .0) (c .before .before .before .put-taken2 .result) (third (c .before .before .before .before .before .before .before .before .before .before .before .before .before .before .before .before .before .before) ++ (fourth (c .before .before .before .before .before .before .before .before .before .before .before .before .before .before .before .before .before .before)))
+ahead-3 c = step (second (c .before .before .before .before .before .before .before .before .before .before .before .before .before .before .before .before .before .before)) _ (ahead-2 (c .before .before .before .before)) (c .before .before .before .put-taken2 .ensures .1) (c .before .before .before .put-taken2 .ensures .0)
+
+ahead-4 : (c : tie.After-put-taken-arg4) → Ahead (whole (c .before .before .before .before .before .before .before .before .before .before .before .before .before .before .before .before .before .before .before .before .before .before)) (c .before .before .before .put-taken3 .last .0) (c .before .before .before .put-taken3 .result) (fourth (c .before .before .before .before .before .before .before .before .before .before .before .before .before .before .before .before .before .before .before .before .before .before))
+ahead-4 c = step (third (c .before .before .before .before .before .before .before .before .before .before .before .before .before .before .before .before .before .before .before .before .before .before)) _ (ahead-3 (c .before .before .before .before)) (c .before .before .before .put-taken3 .ensures .1) (c .before .before .before .put-taken3 .ensures .0)
+
+put-taken-requires : tie.Need-put-taken-requires
+put-taken-requires c κs = let s = c .before .before .before .before .before .before .before .before .before .before in ahead-room (first s) (second s ++ (third s ++ fourth s)) (ahead c)
+
+put-taken-requires-2 : tie.Need-put-taken-requires-2
+put-taken-requires-2 c κs = let s = c .before .before .before .before .before .before .before .before .before .before .before .before .before .before in ahead-room (second s) (third s ++ fourth s) (ahead-2 c)
+
+put-taken-requires-3 : tie.Need-put-taken-requires-3
+put-taken-requires-3 c κs = let s = c .before .before .before .before .before .before .before .before .before .before .before .before .before .before .before .before .before .before in ahead-room (third s) (fourth s) (ahead-3 c)
+
+put-taken-requires-4 : tie.Need-put-taken-requires-4
+put-taken-requires-4 c κs = ahead-4 c .fits
+
+same-length : tie.Need-same-length
+same-length c = search needs
+
+returns : tie.Need-returns
+returns c =
+    let a = c .before .before .before .before .before .before .before .before .before .before .before .before .before .before .before .before .before .before .before .before .before .before .before .before .before .args in
+    let l = taken-length (a .first .now) (a .second .now) (a .third .now) (a .fourth .now) (a .n) in
+    let m = coded-length (a .first .now) (a .second .now) (a .third .now) (a .fourth .now) (a .kind) (a .n) in
+    let p = c .before .before .before .before .before .before .before .before .before .before .before .before .before .before .put-taken .ensures .0 in
+    let q = c .before .before .before .before .before .before .before .before .before .before .put-taken2 .ensures .0 in
+    let r = c .before .before .before .before .before .before .put-taken3 .ensures .0 in
+    let s = c .before .before .put-taken4 .ensures .0 in
+    (omega arith, last (ahead-4 (c .before .before .before)) (c .before .before .put-taken4 .ensures .1))
+
+pub put-coded-spec : {M : Type 1} → statement M
+put-coded-spec =
+    tie.close
+    (tie.spec
+    put-byte-requires
+    put-taken-requires
+    put-taken-requires-2
+    put-taken-requires-3
+    put-taken-requires-4
+    same-length
+    returns)

@@ -1,0 +1,9 @@
+pub mod Sizes
+pub mod Lists
+pub mod Places
+pub mod Walk
+pub mod Fields
+pub mod Storing
+pub mod Whole
+pub mod Writes
+pub mod Ends

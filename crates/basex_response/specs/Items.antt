@@ -1,0 +1,57 @@
+-- Document 01, "An item is a type id (7-15 or 32-83, else 8), in FULL a URI string after 12, 14 and 82, and a string": reading them off the front.
+use mathlib.Core.Bool.{Bool}
+use mathlib.Core.List.{List, [], _∷_, _++_}
+use Prim.Native.Nat.{ℕ, zero, suc, _+_, _-_}
+use lib.Dec.{eqb}
+use lib.ListN.{length}
+use Rattle.wire.specs.Bytes.{if}
+use Rattle.wire.specs.Fields.{Got, Field, goOn, give}
+use Rattle.wire.specs.declared.Refusal.the-variants.{MoreBytes, ValueNotAllowed}
+use Rattle.basex.specs.Kinds.{idAllowed, hasUri, itemStrings}
+use Rattle.basex.specs.Response.{Item}
+use Rattle.basex.specs.Texts.{texts, lengthAt}
+use Rattle.basex_response.specs.declared.ItemAt.{ItemAt}
+use Rattle.basex_response.specs.declared.ItemAt.the-variants as item-at
+
+-- an item, or the 00 behind the last
+pub data Next : Type 0 where
+  item : Item → Next
+  end : Next
+
+-- "8 as soon as the byte is there": the id is judged ahead of its strings
+unfoldable pub next : Bool → Field Next
+next full [] = Got.refused MoreBytes
+next full (id ∷ s) =
+    if (eqb id 0) (Got.got Next.end s)
+    (if (idAllowed id) (goOn (texts (itemStrings full id) s) (λ ts. give (Next.item (record { id = id; texts = ts })))) (Got.refused ValueNotAllowed))
+
+abbrev pub onNext : {A : Type 0} → Got Next → (Item → Field A) → Field A → Got A
+onNext (Got.refused r) more done = Got.refused r
+onNext (Got.got (Next.item i) rest) more done = more i rest
+onNext (Got.got Next.end rest) more done = done rest
+
+-- "items, then 00"; the number bounds how many, and no list has more than it has bytes
+unfoldable pub items : ℕ → Bool → Field (List Item)
+items zero full s = Got.refused MoreBytes
+items (suc n) full s = onNext (next full s) (λ i rest. goOn (items n full rest) (λ is. give (i ∷ is))) (give [])
+
+abbrev pub list : Bool → Field (List Item)
+list full s = items (length s) full s
+
+-- the texts of the items in order
+unfoldable pub itemTexts : List Item → List (List ℕ)
+itemTexts [] = []
+itemTexts (i ∷ is) = i .texts ++ itemTexts is
+
+-- how many bytes an item's URI has, 0 where it has none, and its text
+abbrev pub uriLength : Bool → Item → ℕ
+uriLength full i = if (hasUri full (i .id)) (lengthAt (i .texts) 0) 0
+
+abbrev pub textLength : Bool → Item → ℕ
+textLength full i = if (hasUri full (i .id)) (lengthAt (i .texts) 1) (lengthAt (i .texts) 0)
+
+-- of n bytes from `at` on, what stands there, as places: the id, how long the URI and the text are, and where what follows starts
+abbrev pub itemAt : Bool → ℕ → ℕ → Got Next → ItemAt
+itemAt full at n (Got.refused r) = item-at.Refused r
+itemAt full at n (Got.got (Next.item i) rest) = item-at.Item (i .id) (uriLength full i) (textLength full i) (at + (n - length rest))
+itemAt full at n (Got.got Next.end rest) = item-at.End (at + (n - length rest))
