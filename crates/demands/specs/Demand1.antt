@@ -33,7 +33,7 @@ pub record Demand1 : Type 0 where
       → (stepped s side bytes .session ≡ s) × (1 ≤ numberOf r) × (numberOf r ≤ 9)
   pub lent-refused : (s : Session) (side : Side) (bytes : List ℕ) (r : Refusal) → lentAnswer s side bytes ≡ read.Refused r
       → (lentLeft s side bytes ≡ s) × (1 ≤ numberOf r) × (numberOf r ≤ 9)
-  -- a refused part of a cut leaves every byte of the lent output, and refuses with 2, 8, 10, 11 or 14 as `partWritten` has them
+  -- a refused part of a cut leaves every byte of the lent output
   pub part-refused : (out : List ℕ) (allowed encodable : Bool) (cut : List Message) (k : ℕ) (r : Refusal) → partWritten allowed encodable cut k (length out) ≡ Refused r
       → partLeft out (getElem? cut k) (partWritten allowed encodable cut k (length out)) ≡ out
   -- a refused part or end of a gathering: 8, 9 or 12; the buffer stays, and the record but for the mark

@@ -10,7 +10,7 @@ use Rattle.sedna.specs.declared.Side.{Side}
 use Rattle.sedna.specs.declared.Entry.{Entry}
 use Rattle.sedna.specs.declared.Shape.the-variants.{Options}
 use Rattle.sedna.specs.Encode.{pairsBytes}
-use Rattle.sedna.specs.Message.{Pair, Body, Message}
+use Rattle.sedna.specs.Message.{Pair, Body, Message, message}
 use Rattle.sedna.specs.Published.{Published, Front, Writable}
 use Rattle.sedna.specs.Table.{InTable}
 use Rattle.sedna_read.specs.Meaning.{meaning, optionIn}
@@ -18,7 +18,7 @@ use Rattle.sedna_read.specs.Places.{located, optionAt}
 use Rattle.sedna_read.specs.Reading.{Answer, reading}
 use Rattle.sedna_write.specs.declared.Written.the-variants.{Bytes}
 use Rattle.sedna_write.specs.Pairs.{given, pairsOf}
-use Rattle.sedna_write.specs.Writing.{judgement, message, written, left}
+use Rattle.sedna_write.specs.Writing.{judgement, written, left}
 
 -- the bytes of a slice are bytes: `IsBytes s` is no condition on a caller
 pub record Demand2 : Type 0 where

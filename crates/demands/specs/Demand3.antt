@@ -6,12 +6,12 @@ use mathlib.Core.Path.{_≡_}
 use Prim.Native.Nat.{ℕ}
 use lib.Dec.{T}
 use Rattle.sedna.specs.declared.Side.{Side}
-use Rattle.sedna.specs.Message.{Body}
+use Rattle.sedna.specs.Message.{Body, message}
 use Rattle.sedna.specs.Published.{Published}
 use Rattle.sedna_read.specs.Meaning.{meaning}
 use Rattle.grammar.specs.Grammar.{Conversation}
 use Rattle.grammar.specs.Layout.{flat}
-use Rattle.grammar.specs.Sent.{published, message}
+use Rattle.grammar.specs.Sent.{published}
 use Rattle.session.specs.declared.Session.{Session}
 use Rattle.session.specs.Step.{freshSession, stepped, closedOf}
 use Rattle.session_cell.specs.Lent.{lentAnswer, lentLeft}

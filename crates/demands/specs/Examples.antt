@@ -1,28 +1,55 @@
 -- Document 01, "Worked examples (P: proved, as one table)".
 use mathlib.Core.List.{List, [], _∷_}
-use Prim.Native.Nat.{ℕ}
+use Prim.Native.Nat.{ℕ, _-_}
+use lib.ListN.{length, take}
+use Rattle.wire.specs.Bytes.{placed}
+use Rattle.wire.specs.Fields.{Got}
 use Rattle.wire.specs.Refusals.{numberOf}
 use Rattle.sedna.specs.declared.Side.{Side}
 use Rattle.sedna.specs.declared.Side.the-variants.{Client, Server}
 use Rattle.sedna.specs.Message.{Body, Message}
 use Rattle.sedna.specs.Names.{StartUp, Execute}
 use Rattle.sedna_read.specs.Reading.{Answer, reading}
+use Rattle.basex_string.specs.declared.Spelled.{Spelled}
+use Rattle.basex_string.specs.declared.Spelled.the-variants.{Bytes, Refused}
+use Rattle.basex_string.specs.Answers.{spelling}
+use Rattle.basex_string.specs.Scan as strings
+use Rattle.basex_string.specs.Strings.{string}
 
--- what an example asks
+-- what an example asks: a Sedna message read, a BaseX string written, and one read
 pub data Question : Type 0 where
   sedna : Side → List ℕ → Question
+  basexWrite : List ℕ → Question
+  basexRead : List ℕ → Question
 
--- what it is answered: a refusal's number, or a message and the bytes read
+-- what it is answered: a refusal's number, a message and the bytes read, bytes written, or a text and the bytes read
 pub data Reply : Type 0 where
   number : ℕ → Reply
   message : Message → ℕ → Reply
+  bytes : List ℕ → Reply
+  text : List ℕ → ℕ → Reply
 
 abbrev pub sednaReply : Answer → Reply
 sednaReply (Answer.refused r) = Reply.number (numberOf r)
 sednaReply (Answer.accepted m n) = Reply.message m n
 
+-- what stands in front of the output, where so many bytes were written
+abbrev pub writtenReply : List ℕ → Spelled → Reply
+writtenReply out (Refused r) = Reply.number (numberOf r)
+writtenReply out (Bytes n) = Reply.bytes (take n out)
+
+abbrev pub readReply : ℕ → Got (List ℕ) → Reply
+readReply n (Got.refused r) = Reply.number (numberOf r)
+readReply n (Got.got t rest) = Reply.text t (n - length rest)
+
+-- an output of eight bytes
+abbrev blank : List ℕ
+blank = 0 ∷ 0 ∷ 0 ∷ 0 ∷ 0 ∷ 0 ∷ 0 ∷ 0 ∷ []
+
 abbrev pub reply : Question → Reply
 reply (Question.sedna side s) = sednaReply (reading side s)
+reply (Question.basexWrite t) = writtenReply (placed blank 0 (string t)) (spelling (length blank) 0 t)
+reply (Question.basexRead s) = readReply (length s) (strings.reading s)
 
 pub record Example : Type 0 where
   pub asked : Question
@@ -59,4 +86,8 @@ table =
     refuse Client (0 ∷ 0 ∷ 1 ∷ 0x2C ∷ 0 ∷ 0 ∷ 0 ∷ 7 ∷ 0 ∷ 1 ∷ 0 ∷ 0 ∷ 0 ∷ 1 ∷ 0x31 ∷ []) 6 ∷
     -- the same, string length 2: 5
     refuse Client (0 ∷ 0 ∷ 1 ∷ 0x2C ∷ 0 ∷ 0 ∷ 0 ∷ 7 ∷ 0 ∷ 0 ∷ 0 ∷ 0 ∷ 0 ∷ 2 ∷ 0x31 ∷ []) 5 ∷
+    -- BaseX write 61 00 FF: 61 FF 00 FF FF 00
+    record { asked = Question.basexWrite (0x61 ∷ 0 ∷ 0xFF ∷ []); answer = Reply.bytes (0x61 ∷ 0xFF ∷ 0 ∷ 0xFF ∷ 0xFF ∷ 0 ∷ []) } ∷
+    -- BaseX read FF 41 00: 13
+    record { asked = Question.basexRead (0xFF ∷ 0x41 ∷ 0 ∷ []); answer = Reply.number 13 } ∷
     []
