@@ -10,11 +10,11 @@ mod replay;
 mod text;
 
 use libc::STDIN_FILENO;
-use text::behind;
-use text::first;
-use text::front;
-use text::say;
-use text::say_number;
+use lines::cut::behind;
+use lines::cut::first;
+use lines::cut::front;
+use lines::print::decimal;
+use lines::print::say;
 
 // The major version that a word names; 0 where it names none.
 fn version_of(word: &[u8]) -> u8 {
@@ -37,7 +37,7 @@ fn answer(line: &[u8]) {
         say(b" ?");
         return;
     }
-    say_number(version as u64);
+    decimal(version as u64);
     say(b":");
     replay::conversation(version, words);
     if told.len() < line.len() {

@@ -1,7 +1,7 @@
 // A small well formed message of each instruction, and the step on it.
-use crate::text::first;
-use crate::text::say;
-use crate::text::say_number;
+use lines::cut::first;
+use lines::print::decimal;
+use lines::print::say;
 use sedna::Found;
 use sedna::Shape;
 use sedna_read::Reading;
@@ -33,11 +33,11 @@ pub fn offer(session: Session, version: u8, instruction: u32) -> Session {
     };
     let after = session::step(session, side, first(&space, n));
     say(b" ");
-    say_number(instruction as u64);
+    decimal(instruction as u64);
     let answer = after.answer;
     if let Reading::Refused(r) = answer {
         say(b"!");
-        say_number(wire::number(r) as u64);
+        decimal(wire::number(r) as u64);
     }
     after.session
 }

@@ -1,9 +1,9 @@
 // The words of a line, replayed from a fresh session.
 use crate::message::offer;
-use crate::text::front;
 use crate::text::instruction;
-use crate::text::same;
-use crate::text::say;
+use lines::cut::front;
+use lines::cut::same;
+use lines::print::say;
 use sedna::Found;
 use sedna::names;
 use session::Session;

@@ -1,12 +1,8 @@
 // A text cut, written, read back and joined.
 use crate::join::opened;
 use crate::text::MOST;
-use crate::text::behind;
-use crate::text::front;
 use crate::text::number;
 use crate::text::refused;
-use crate::text::same;
-use crate::text::say;
 use crate::text::say_answer;
 use crate::text::say_refusal;
 use crate::text::say_value;
@@ -15,6 +11,10 @@ use assembly::Assembly;
 use assembly::Open;
 use assembly::handed_shared;
 use fragments::Parts;
+use lines::cut::behind;
+use lines::cut::front;
+use lines::cut::same;
+use lines::print::say;
 use sedna::Found;
 use sedna_read::Reading;
 use sedna_write::Written;

@@ -1,13 +1,13 @@
 // Messages joined as they are told, whatever a reader would say of them.
 use crate::text::MOST;
-use crate::text::behind;
-use crate::text::front;
 use crate::text::number;
-use crate::text::same;
-use crate::text::say;
 use crate::text::say_answer;
 use crate::text::value;
 use assembly::Assembly;
+use lines::cut::behind;
+use lines::cut::front;
+use lines::cut::same;
+use lines::print::say;
 use sedna::Found;
 use sedna::Shape;
 use sedna_read::Places;

@@ -18,11 +18,11 @@ mod join;
 mod text;
 
 use libc::STDIN_FILENO;
-use text::behind;
+use lines::cut::behind;
+use lines::cut::front;
+use lines::cut::same;
+use lines::print::say;
 use text::fill;
-use text::front;
-use text::same;
-use text::say;
 
 fn show(pattern: &[u8], line: &[u8]) {
     let kind = front(line, b' ');

@@ -1,24 +1,19 @@
-// Parts of text, numbers, and printing.
-ghost use Prim.Native.Nat.{_≤_};
-ghost use lib.ListN.{length};
+// Numbers that words spell, and printing what is answered.
 use assembly::Answer;
 use assembly::Assembly;
 use assembly::handed_shared;
-use libc::STDOUT_FILENO;
-use wire::Place;
+use lines::cut::same;
+use lines::print::decimal;
+use lines::print::say;
 use wire::Refusal;
 
 // The greatest length and room, and the greatest number of a line.
 pub const MOST: usize = 32768;
 
-pub fn say(text: &[u8]) {
-    io::write_all(STDOUT_FILENO, text);
-}
-
 // A sign and a number.
 pub fn say_value(sign: u8, n: usize) {
     say(&[sign]);
-    io::print_decimal(STDOUT_FILENO, n as u64);
+    decimal(n as u64);
 }
 
 pub fn say_refusal(r: Refusal) {
@@ -58,32 +53,6 @@ pub fn say_answer(answer: Answer, buffer: &[u8], text: &[u8]) {
             say_value(b',', kind as usize);
         }
     }
-}
-
-// All before the first b. A loop over such parts ends because none is longer than what it is of.
-pub fn front(s: &[u8], b: u8) -> &[u8]
-    ensures { λ r. ⌜ length (now r) ≤ length (now (s .entry)) ⌝ }
-{
-    let mut i = 0;
-    while i < s.len() && s[i] != b {
-        i += 1;
-    }
-    &s[0..i]
-}
-
-// All behind the first b; nothing where there is none.
-pub fn behind(s: &[u8], b: u8) -> &[u8] {
-    let start = front(s, b).len() + 1;
-    let len = s.len();
-    wire::part(s, Place { start, len })
-}
-
-pub fn same(a: &[u8], b: &[u8]) -> bool {
-    let mut i = 0;
-    while i < a.len() && i < b.len() && a[i] == b[i] {
-        i += 1;
-    }
-    i == a.len() && i == b.len()
 }
 
 // The number that digits spell, up to 32,768; 32,769 where they spell more, or none.

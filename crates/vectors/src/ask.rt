@@ -1,15 +1,15 @@
 // The writing lines: each has a message written into lent output.
-use crate::cut::front;
-use crate::cut::position;
-use crate::cut::skip;
 use crate::fields::Kind;
 use crate::fields::Told;
 use crate::fields::tell;
-use crate::parse::Number;
-use crate::parse::SPACE;
-use crate::parse::decimal;
 use crate::write::message;
 use crate::written;
+use lines::cut::front;
+use lines::cut::position;
+use lines::cut::skip;
+use lines::parse::Number;
+use lines::parse::SPACE;
+use lines::parse::decimal;
 
 fn kind_of(word: &[u8]) -> Kind {
     match position(

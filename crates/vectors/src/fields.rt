@@ -1,13 +1,13 @@
 // The fields of a writing line: their bytes go into lent space, and the places there tell the message.
-use crate::cut::behind;
-use crate::cut::front;
-use crate::cut::skip;
-use crate::cut::trimmed;
-use crate::parse::Number;
-use crate::parse::SPACE;
-use crate::parse::Spelt;
-use crate::parse::bytes;
-use crate::parse::decimal;
+use lines::cut::behind;
+use lines::cut::front;
+use lines::cut::skip;
+use lines::cut::trimmed;
+use lines::parse::Number;
+use lines::parse::SPACE;
+use lines::parse::Spelt;
+use lines::parse::bytes;
+use lines::parse::decimal;
 use sedna_read::Places;
 use sedna_read::UrlPlace;
 use wire::Place;

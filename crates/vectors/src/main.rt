@@ -8,31 +8,36 @@
 //     item ROOM I CLASS TYPE HEX
 //     itemurl ROOM I CLASS TYPE HEX / HEX
 //     options ROOM I ID HEX / ID HEX / ..
+//     spell ROOM HEX                a text written as a BaseX string, and a string read
+//     spelt ROOM HEX
+//     request ROOM HEX              a BaseX request read, and one written: kind K and up to four texts
+//     ask ROOM K HEX / HEX / ..
+//     response ROOM K HEX           the response to a request of kind K read
+//     entry ROOM K ID HEX / HEX     an item of one written, with URI and text
+//     answer ROOM K STATUS HEX / HEX / HEX     all else of one: two strings, and the error
 // HEX is pairs of digits with spaces between, or nothing; 41*10235 is 10,235 bytes 41. ROOM and the
 // bytes of a line are 12,000 at most. An empty line and one that starts with # are printed as they are.
 mod ask;
-mod cut;
+mod basex_lines;
 mod fields;
 mod names;
-mod parse;
-mod print;
 mod show;
 mod write;
 mod written;
 
-use cut::behind;
-use cut::first;
-use cut::front;
-use cut::same;
 use libc::STDIN_FILENO;
-use parse::SPACE;
-use parse::Spelt;
-use print::say;
+use lines::cut::behind;
+use lines::cut::first;
+use lines::cut::front;
+use lines::cut::same;
+use lines::parse::SPACE;
+use lines::parse::Spelt;
+use lines::print::say;
 use sedna::Side;
 
 fn read(side: Side, text: &[u8]) -> bool {
     let mut space = [0u8; SPACE];
-    let Spelt::Bytes(n) = parse::bytes(text, &mut space, 0) else {
+    let Spelt::Bytes(n) = lines::parse::bytes(text, &mut space, 0) else {
         return false;
     };
     show::read(side, first(&space, n));
@@ -48,6 +53,9 @@ fn answered(line: &[u8]) -> bool {
     }
     if same(kind, b"S") {
         return read(Side::Server, rest);
+    }
+    if basex_lines::line(kind, rest) {
+        return true;
     }
     ask::write(kind, rest)
 }

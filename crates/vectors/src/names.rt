@@ -1,10 +1,10 @@
 // Document 01's words: the refusals, and the messages' names.
-use crate::cut::behind;
-use crate::cut::front;
-use crate::parse::Number;
-use crate::parse::decimal;
-use crate::print;
-use crate::print::say;
+use lines::cut::behind;
+use lines::cut::front;
+use lines::parse::Number;
+use lines::parse::decimal;
+use lines::print;
+use lines::print::say;
 use sedna::Side;
 use wire::Refusal;
 

@@ -1,13 +1,13 @@
 // What reading answers: the refusal, or the message with its fields.
-use crate::cut::first;
-use crate::cut::same;
 use crate::names::message;
 use crate::names::refused;
-use crate::parse::SPACE;
-use crate::print::decimal;
-use crate::print::say;
-use crate::print::string;
 use crate::write;
+use lines::cut::first;
+use lines::cut::same;
+use lines::parse::SPACE;
+use lines::print::decimal;
+use lines::print::say;
+use lines::print::string;
 use sedna::Side;
 use sedna_read::OptionPlace;
 use sedna_read::Places;

@@ -1,5 +1,5 @@
 // Writes a message that is told by the places of its fields, through the writer of its shape.
-use crate::parse::SPACE;
+use lines::parse::SPACE;
 use sedna_read::OptionPlace;
 use sedna_read::Places;
 use sedna_read::UrlPlace;

@@ -1,9 +1,9 @@
 // What writing answers: the refusal, or the bytes; and whether it left the other bytes alone.
-use crate::cut::first;
-use crate::cut::rest;
 use crate::names::refused;
-use crate::print;
-use crate::print::say;
+use lines::cut::first;
+use lines::cut::rest;
+use lines::print;
+use lines::print::say;
 use sedna_write::Written;
 
 // Lent output holds this in every byte before it is written.
@@ -38,7 +38,7 @@ fn message(bytes: &[u8]) {
     print::count_above(32, bytes.len());
 }
 
-fn untouched(s: &[u8]) {
+pub fn untouched(s: &[u8]) {
     if blank(s) {
         say(b" untouched");
     } else {

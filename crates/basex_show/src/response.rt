@@ -1,0 +1,97 @@
+// A response: its status, its strings, its items as ID:TEXT or ID:URI:TEXT, and !ERROR.
+use crate::text::accepted;
+use crate::text::field;
+use crate::text::field_if;
+use crate::text::refused;
+use basex::Found;
+use basex::Reply;
+use basex_response::ItemAt;
+use basex_response::Replied;
+use lines::print::decimal;
+use lines::print::hex;
+use lines::print::say;
+
+// What a response to the kind is made of; reading has refused other kinds before this is asked.
+fn reply_of(kind: u8) -> Reply {
+    match basex::find(kind) {
+        Found::Unknown => Reply::Command,
+        Found::Known(_, reply) => reply,
+    }
+}
+
+// One item; answers where the texts of the next one start.
+fn item(full: bool, id: u8, uri: usize, text: usize, out: &[u8], to: usize) -> usize {
+    say(b" ");
+    decimal(id as u64);
+    let next = field_if(basex::item_strings(full, id) == 2, out, to, uri, b':');
+    field(out, next, text, b':')
+}
+
+// So many items from the front of the bytes, their texts from `to` on; answers where those end.
+fn items(full: bool, n: usize, bytes: &[u8], out: &[u8]) -> usize {
+    let mut at = 0;
+    let mut to = 0;
+    let mut k = 0;
+    while k < n {
+        match basex_response::item_at(full, bytes, at) {
+            ItemAt::Item {
+                id,
+                uri,
+                text,
+                next,
+            } => {
+                to = item(full, id, uri, text, out, to);
+                at = next;
+            }
+            ItemAt::End { next } => at = next,
+            ItemAt::Refused(_) => {}
+        }
+        k += 1;
+    }
+    to
+}
+
+// The items where there is a list of them; answers where the next text starts.
+fn items_if(reply: Reply, n: usize, bytes: &[u8], out: &[u8], at: usize) -> usize {
+    if basex::is_listed(reply) {
+        return items(basex::is_full(reply), n, bytes, out);
+    }
+    at
+}
+
+fn error_if(failed: bool, out: &[u8], at: usize, len: usize) -> usize {
+    if failed {
+        say(b" ");
+        return field(out, at, len, b'!');
+    }
+    at
+}
+
+// Answers how many bytes of the output the texts take.
+pub fn show(kind: u8, bytes: &[u8], out: &mut [u8]) -> usize {
+    match basex_response::read_response(kind, bytes, out) {
+        Replied::Refused(r) => {
+            refused(r);
+            0
+        }
+        Replied::Read {
+            first,
+            second,
+            items: count,
+            listed: _,
+            status,
+            error,
+            read,
+        } => {
+            accepted(read);
+            say(b" ");
+            hex(&[status]);
+            let reply = reply_of(kind);
+            let n = basex::strings_ahead(reply);
+            let a = field_if(0 < n, out, 0, first, b' ');
+            let b = field_if(1 < n, out, a, second, b' ');
+            let c = items_if(reply, count, bytes, out, b);
+            error_if(0 < basex::strings_behind(reply, status), out, c, error)
+        }
+    }
+}

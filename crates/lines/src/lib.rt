@@ -1,0 +1,6 @@
+// Lines of text for the programs: parts of them, numbers and bytes that they spell, and printing. No
+// part of the library: like the programs, it is proved to do nothing undefined and to end, and
+// promises no more.
+pub mod cut;
+pub mod parse;
+pub mod print;
