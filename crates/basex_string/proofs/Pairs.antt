@@ -1,5 +1,5 @@
 -- Pairs of an FF and what it escapes, one behind the other.
-use mathlib.Core.Path.{_≡_, refl, sym, ap, _∙_}
+use mathlib.Core.Path.{_≡_, refl, ap, _∙_}
 use mathlib.Core.List.{List, [], _∷_}
 use mathlib.Core.Bool.{Bool, true, false}
 use Prim.Native.Nat.{ℕ, zero, suc, _+_, _*_, _≤_, _<_}
@@ -9,7 +9,6 @@ use lib.ListN.{length, drop, getD}
 use lib.Seq.{drop-drop}
 use borrow.Author.Tests.{eq-eqb, ne-eqb, eqb-true}
 use Rattle.wire.specs.Bytes.{if}
-use Rattle.wire.specs.Fields.{Got}
 use Rattle.basex_string.specs.Strings.{special}
 use Rattle.basex_string.specs.Scan.{push, scan, reading}
 use Rattle.basex_string.specs.Answers.{pairs, textOf}

@@ -2,12 +2,12 @@
 use mathlib.Core.Path.{_≡_, refl, subst, sym, ap, _∙_}
 use mathlib.Core.List.{List, [], _∷_, _++_, append-assoc, append-nil}
 use mathlib.Core.Bool.{Bool, true, false}
-use Prim.Native.Nat.{ℕ, _+_, _-_, _≤_}
+use Prim.Native.Nat.{ℕ, _+_, _-_, _≤_, _<_}
 use native.Mathlib.Omega.{arith}
-use lib.ListN.{length, take, drop, length-append, length-take, take-append-drop}
+use lib.ListN.{length, take, drop, set, length-append, length-set, length-take, take-append-drop}
 use lib.Seq.{take-at, drop-at, drop-drop, length-take-le}
 use Rattle.wire.specs.Bytes.{if, over}
-use Rattle.wire.proofs.Over.{Ahead, over-over, length-over}
+use Rattle.wire.proofs.Over.{Ahead, over-over, over-sets, length-over}
 use Rattle.basex_string.specs.Strings.{special, string}
 use Rattle.basex_string.proofs.Steps.{string-length, specials-split}
 
@@ -40,6 +40,15 @@ over-same d k a b h f =
     ap (λ (x : List ℕ). x ++ b ++ drop (k + length b) (p ++ drop (k + length a) d)) (ap (take k) (append-assoc (take k d) a (drop (k + length a) d)) ∙ take-at (take k d) (a ++ drop (k + length a) d) k l)
     ∙ ap (λ (x : List ℕ). take k d ++ b ++ x)
     (ap (λ (n : ℕ). drop n (p ++ drop (k + length a) d)) (sym m) ∙ sym (drop-drop (length b - length a) (k + length a) (p ++ drop (k + length a) d)) ∙ ap (drop (length b - length a)) (drop-at p (drop (k + length a) d) (k + length a) e) ∙ drop-drop (length b - length a) (k + length a) d ∙ ap (λ (n : ℕ). drop n d) m)
+
+-- a byte is stored where more is ahead
+pub ahead-set : {t d text : List ℕ} {at : ℕ} (x : ℕ) → Ahead t d at text → 0 < length text → Ahead t (set d at x) at text
+ahead-set {t} {d} {text} {at} x a h =
+    let f = a .fits in
+    record {
+      makes = ap (λ (l : List ℕ). over l at text) (over-sets d at (x ∷ []) (omega arith)) ∙ over-same d at (x ∷ []) text h (omega arith) ∙ a .makes;
+      fits = simp length-set f;
+    }
 
 pub string-part : (m : ℕ) (s : List ℕ) → length (string (take m s)) ≤ length (string s)
 string-part m s =

@@ -4,19 +4,18 @@ use mathlib.Core.List.{List, [], _∷_, _++_}
 use mathlib.Core.Bool.{Bool, true, false}
 use Prim.Native.Nat.{ℕ, zero, suc, _+_, _-_, _≤_, _<_}
 use native.Mathlib.Omega.{arith}
-use lib.Dec.{leb, ltb, eqb}
+use lib.Dec.{leb, eqb}
 use lib.ListN.{length, take, drop, getD, length-append, length-drop, drop-of-length-le}
-use lib.Seq.{drop-drop, getD-drop, length-take-le, take-add, paste}
-use borrow.Author.Tests.{le-leb, lt-leb, leb-true, leb-false, ltb-true, ltb-false, ne-eqb}
-use Rattle.wire.specs.Bytes.{if, over, placed}
-use Rattle.wire.proofs.Over.{placed-fits, both}
+use lib.Seq.{drop-drop, getD-drop, length-take-le}
+use borrow.Author.Tests.{le-leb, lt-leb, leb-true, leb-false, ne-eqb}
+use Rattle.wire.specs.Bytes.{if}
 use Rattle.basex_string.specs.Strings.{special, string}
 use Rattle.wire.specs.Fields.{Got}
 use Rattle.basex_string.specs.Scan.{push, scan, reading}
 use Rattle.basex_string.specs.Answers.{run, textOf}
 use Rattle.basex_string.specs.declared.StringAt.the-variants as string-at
 use Rattle.basex_string.proofs.Steps.{here}
-use Rattle.basex_string.proofs.Scans.{seen, reading-end, reading-zero, text-here}
+use Rattle.basex_string.proofs.Scans.{seen}
 
 -- a special byte ends the run, a plain one goes on with it
 run-past : (l : List ℕ) (i : ℕ) → special (getD l i 0) ≡ true → run l ≤ i
@@ -111,11 +110,6 @@ module _ (s : List ℕ) (i : ℕ) (h : i < length s) where
   pub run-goes : (getD s i 0 ≡ 0 → ⊥) → (getD s i 0 ≡ 255 → ⊥) → 0 < run (drop i s)
   run-goes z f = let e = run-plain (rw (ne-eqb (getD s i 0) 0 z, ne-eqb (getD s i 0) 255 f)) in omega arith
 
--- where text is left, no 00 stands
-pub text-goes : (s : List ℕ) (i : ℕ) → 0 < length (textOf (reading (drop i s))) → (getD s i 0 ≡ 255 → ⊥) → 0 < run (drop i s)
-text-goes s i h f =
-    run-goes s i (text-here s i h) (λ (e : getD s i 0 ≡ 0). let q = ap (λ (x : Got (List ℕ)). length (textOf x)) (reading-zero s i (text-here s i h) e) in omega arith) f
-
 -- what the definitions make of m plain bytes in front
 string-run : (m : ℕ) (l : List ℕ) → m ≤ run l → string l ≡ take m l ++ string (drop m l)
 unfolding run string
@@ -200,41 +194,3 @@ module _ (s : List ℕ) (i end : ℕ) (h : i ≤ end) (k : end ≤ i + run (drop
 
   pub run-text-size : i ≤ length s → 0 < length (textOf (reading (drop i s))) → length (textOf (reading (drop i s))) ≡ (end - i) + length (textOf (reading (drop end s)))
   run-text-size f t = ap length (run-text t) ∙ length-append (take (end - i) (drop i s)) (textOf (reading (drop end s))) ∙ ap (λ (n : ℕ). n + length (textOf (reading (drop end s)))) (run-size f)
-
--- where text is left, the run ends ahead of the slice: at an FF or at the 00
-pub run-ends : (s : List ℕ) (i : ℕ) → 0 < length (textOf (reading (drop i s))) → i + run (drop i s) < length s
-run-ends s i t = by (ltb (i + run (drop i s)) (length s)) refl
-  where
-    by : (f : Bool) → ltb (i + run (drop i s)) (length s) ≡ f → i + run (drop i s) < length s
-    by true e = ltb-true _ _ e
-    by false e =
-        let h = text-here s i t in
-        let k = i + run (drop i s) in
-        let z = ap (λ (x : Got (List ℕ)). length (textOf (pushes (take (k - i) (drop i s)) x))) (reading-end s k (ltb-false _ _ e)) in
-        let r = ap (λ (x : Got (List ℕ)). length (textOf x)) (run-reading s i k (omega arith) (omega arith)) in
-        absurd (omega arith)
-
--- the loop of `put_few`: n plain bytes stand in the output
-pub run-copy : (d : List ℕ) (to : ℕ) (s : List ℕ) (i n : ℕ) → i + n ≤ length s → paste d to (drop i s) n ≡ over d to (take (i + n - i) (drop i s))
-unfolding over
-run-copy d to s i n h =
-    let e : i + n - i ≡ n = omega arith in
-    let l = length-drop i s in
-    let m : length (take n (drop i s)) ≡ n = length-take-le n (drop i s) (omega arith) in
-    rw (e, m)
-
--- a few plain bytes were copied, and then those up to `end`
-pub run-joined : (d : List ℕ) (to : ℕ) (s : List ℕ) (i few end k : ℕ) {a b : List ℕ} → i ≤ few → few ≤ end → end ≤ length s → to + (end - i) ≤ length d → k ≡ to + (few - i)
-    → a ≡ over d to (take (few - i) (drop i s)) → b ≡ placed a k (take (end - few) (drop few s)) → b ≡ over d to (take (end - i) (drop i s))
-run-joined d to s i few end k {a} {b} h g f r q p o =
-    let x : List ℕ = take (few - i) (drop i s) in
-    let y : List ℕ = take (end - few) (drop few s) in
-    let j : i + (few - i) ≡ few = omega arith in
-    let m : (few - i) + (end - few) ≡ end - i = omega arith in
-    let u : length x ≡ few - i = let l = length-drop i s in length-take-le (few - i) (drop i s) (omega arith) in
-    let v : length y ≡ end - few = let l = length-drop few s in length-take-le (end - few) (drop few s) (omega arith) in
-    let w : take (end - i) (drop i s) ≡ x ++ y =
-    ap (λ (n : ℕ). take n (drop i s)) (sym m)
-    ∙ take-add (few - i) (end - few) (drop i s) ∙ ap (λ (l : List ℕ). x ++ take (end - few) l) (drop-drop (few - i) i s ∙ ap (λ (n : ℕ). drop n s) j) in
-    let z = length-append x y in
-    both d to x y k (omega arith) (p ∙ sym (placed-fits d to x (omega arith))) o (omega arith) ∙ placed-fits d to (x ++ y) (omega arith) ∙ ap (over d to) (sym w)

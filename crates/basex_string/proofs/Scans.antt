@@ -1,13 +1,13 @@
 -- One step of reading a string: what stands at a place, and what is read of what follows.
 use mathlib.Core.Path.{_≡_, refl, subst, sym, ap, _∙_}
 use mathlib.Core.List.{List, [], _∷_}
-use mathlib.Core.Bool.{Bool, true, false}
+use mathlib.Core.Bool.{Bool, true, false, not}
 use Prim.Native.Nat.{ℕ, suc, _+_, _-_, _≤_, _<_}
 use native.Mathlib.Omega.{arith}
-use lib.Dec.{ltb}
+use lib.Dec.{eqb, ltb}
 use lib.ListN.{length, drop, getD, drop-of-length-le, length-drop}
 use borrow.Author.Tests.{lt-ltb, le-ltb, eq-eqb, ltb-true, ltb-false}
-use Rattle.wire.specs.Bytes.{placed}
+use Rattle.wire.specs.Bytes.{if, placed}
 use Rattle.wire.specs.declared.Refusal.{Refusal}
 use Rattle.wire.specs.declared.Refusal.the-variants.{MoreBytes, NoRoom, BadEscape}
 use Rattle.basex_string.specs.Strings.{special}
@@ -48,7 +48,7 @@ module _ (s : List ℕ) (i : ℕ) (h : i < length s) where
   unfolding scan
   reading-zero e = ap reading (here s i h) ∙ rw (eq-eqb (getD s i 0) 0 e)
 
-  escape : getD s i 0 ≡ 255 → reading (drop i s) ≡ scan true (drop (i + 1) s)
+  pub escape : getD s i 0 ≡ 255 → reading (drop i s) ≡ scan true (drop (i + 1) s)
   unfolding scan
   escape e = ap reading (here s i h) ∙ rw e
 
@@ -72,14 +72,46 @@ text-push : (b : ℕ) (x : Got (List ℕ)) → 0 < length (textOf (push b x)) �
 text-push b (Got.refused r) h = absurd (omega arith)
 text-push b (Got.got s rest) h = refl
 
+-- whether b is an FF that escapes the next byte
+abbrev pub opening : ℕ → Bool → Bool
+opening b e = if (eqb b 255) (not e) false
+
+-- a byte that is none stands in the text
+text-cons : (e : Bool) (b : ℕ) (l : List ℕ) → 0 < length (textOf (scan e (b ∷ l))) → opening b e ≡ false → textOf (scan e (b ∷ l)) ≡ b ∷ textOf (reading l)
+unfolding scan
+text-cons true b l = by (special b)
+  where
+    by : (t : Bool) → 0 < length (textOf (if t (push b (reading l)) (Got.refused BadEscape))) → opening b true ≡ false → textOf (if t (push b (reading l)) (Got.refused BadEscape)) ≡ b ∷ textOf (reading l)
+    by true h o = text-push b (reading l) h
+    by false h o = absurd (omega arith)
+text-cons false b l = by (eqb b 0) (eqb b 255)
+  where
+    at : Bool → Bool → Got (List ℕ)
+    at z f = if z (Got.got [] l) (if f (scan true l) (push b (reading l)))
+
+    by : (z f : Bool) → 0 < length (textOf (at z f)) → if f true false ≡ false → textOf (at z f) ≡ b ∷ textOf (reading l)
+    by true f h o = absurd (omega arith)
+    by false true h o = let w : true ≡ false = o in cc
+    by false false h o = text-push b (reading l) h
+
+module _ (e : Bool) (s : List ℕ) (i : ℕ) (h : 0 < length (textOf (scan e (drop i s)))) where
+  pub text-left : i < length s
+  unfolding scan
+  text-left = by (ltb i (length s)) refl
+    where
+      by : (t : Bool) → ltb i (length s) ≡ t → i < length s
+      by true p = ltb-true _ _ p
+      by false p = let z = ap (λ (l : List ℕ). length (textOf (scan e l))) (drop-of-length-le s (ltb-false _ _ p)) in omega arith
+
+  pub text-byte : opening (getD s i 0) e ≡ false → textOf (scan e (drop i s)) ≡ getD s i 0 ∷ textOf (reading (drop (i + 1) s))
+  text-byte o =
+      let q = here s i text-left in
+      ap (λ (l : List ℕ). textOf (scan e l)) q ∙ text-cons e (getD s i 0) (drop (i + 1) s) (subst (λ (l : List ℕ). 0 < length (textOf (scan e l))) q h) o
+
 -- where text is left, a byte of it stands at i, or an FF and the byte that it escapes
 module _ (s : List ℕ) (i : ℕ) (h : 0 < length (textOf (reading (drop i s)))) where
   pub text-here : i < length s
-  text-here = by (ltb i (length s)) refl
-    where
-      by : (t : Bool) → ltb i (length s) ≡ t → i < length s
-      by true e = ltb-true _ _ e
-      by false e = let z = ap (λ (x : Got (List ℕ)). length (textOf x)) (reading-end s i (ltb-false _ _ e)) in omega arith
+  text-here = text-left false s i h
 
   module _ (f : getD s i 0 ≡ 255) where
     pub text-two : i + 1 < length s

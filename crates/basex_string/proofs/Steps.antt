@@ -5,7 +5,7 @@ use mathlib.Core.Bool.{Bool, true, false}
 use Prim.Native.Nat.{ℕ, zero, suc, _+_, _-_, _≤_, _<_}
 use native.Mathlib.Numerals.{add-one}
 use native.Mathlib.Omega.{arith}
-use lib.ListN.{length, take, drop, getD, set, drop-of-length-le, length-append}
+use lib.ListN.{length, take, drop, getD, set, drop-of-length-le}
 use lib.Seq.{drop-cons, drop-drop, set-set}
 use borrow.Author.Tests.{lt-ltb, le-ltb}
 use Rattle.wire.specs.Bytes.{if, over, placed}
@@ -137,9 +137,3 @@ ahead-run {t} {d} {e} {text} {rest} {at} r q k a p z = step r k (subst (Ahead t 
 -- what is ahead now makes of the output what was ahead made of it
 pub ahead-on : {t d e text rest : List ℕ} {at j k : ℕ} → Ahead t d at text → over e j rest ≡ over d at text → k ≡ j → k + length rest ≤ length e → Ahead t e k rest
 ahead-on {e = e} {rest = rest} a p q f = record { makes = ap (λ (m : ℕ). over e m rest) q ∙ p ∙ a .makes; fits = f }
-
-pub ahead-put : {t d e text rest : List ℕ} {at : ℕ} (r : List ℕ) → text ≡ r ++ rest → (k : ℕ) → Ahead t d at text → e ≡ over d at r → k ≡ at + length r → Ahead t e k rest
-ahead-put {d = d} {rest = rest} {at = at} r q k a p z =
-    let l = ap length q ∙ length-append r rest in
-    let f = a .fits in
-    ahead-run r q k a (p ∙ sym (placed-fits d at r (omega arith))) z

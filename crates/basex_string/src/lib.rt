@@ -1,11 +1,12 @@
 // BaseX strings: written into lent output, judged where they stand, and decoded into lent output.
 // All of a string or nothing: on a refusal the output stays as it was.
+ghost use mathlib.Core.Bool.{not, false};
 ghost use mathlib.Core.Path.{_≡_};
 ghost use mathlib.Core.List.{[], _∷_, _++_};
-ghost use Prim.Native.Nat.{_+_, _*_, _-_, _≤_, _<_, min};
-ghost use lib.Dec.{leb};
-ghost use lib.ListN.{length, take, drop, getD};
-ghost use Rattle.wire.specs.Bytes.{over, placed};
+ghost use Prim.Native.Nat.{_+_, _*_, _≤_, _<_, min};
+ghost use lib.Dec.{eqb, leb};
+ghost use lib.ListN.{length, drop, getD};
+ghost use Rattle.wire.specs.Bytes.{if, over, placed};
 ghost use Rattle.basex_string.specs.Strings.{special, string};
 ghost use Rattle.basex_string.specs.Scan.{reading};
 ghost use Rattle.basex_string.specs.Answers.{run, pairs, spelling, located, decoded, left, textOf};
@@ -231,35 +232,44 @@ pub fn string_at(bytes: &[u8], at: usize) -> StringAt
     StringAt::Refused(Refusal::MoreBytes)
 }
 
-// Plain bytes from `from` on, sixteen at most, one by one; the answer is where they end.
-fn put_few(bytes: &[u8], from: usize, out: &mut [u8], to: usize) -> usize
-    requires { ⌜ (from + run (drop from (now bytes)) < length (now bytes)) × (to + run (drop from (now bytes)) ≤ length (now out)) ⌝ }
-    ensures { λ r. ⌜ (r ≡ from + min 16 (run (drop from (now (bytes .entry))))) × (now (out .exit) ≡ over (now (out .entry)) to (take (r - from) (drop from (now (bytes .entry))))) ⌝ }
+// Whether the byte is an FF that escapes the next one.
+fn opens(b: u8, escaped: bool) -> bool
+    ensures { λ r. ⌜ r ≡ if (eqb b 255) (not escaped) false ⌝ }
 {
-    let mut n: usize = 0;
-    while n < 16 {
-        let b = bytes[from + n];
-        if is_special(b) {
-            return from + n;
-        }
-        out[to + n] = b;
-        n += 1;
-    }
-    from + 16
+    if b == 255 { !escaped } else { false }
 }
 
-// Plain bytes from `from` on, all of them where they are few, else blocks of them in one move.
-fn put_run(bytes: &[u8], from: usize, out: &mut [u8], to: usize) -> usize
-    requires { ⌜ (from + run (drop from (now bytes)) < length (now bytes)) × (to + run (drop from (now bytes)) ≤ length (now out)) ⌝ }
-    ensures { λ r. ⌜ (from + min 16 (run (drop from (now (bytes .entry)))) ≤ r) × (r ≤ from + run (drop from (now (bytes .entry)))) × (now (out .exit) ≡ over (now (out .entry)) to (take (r - from) (drop from (now (bytes .entry))))) ⌝ }
+// How many bytes of the text were stored, and where the next ones stand.
+struct Stored {
+    count: usize,
+    next: usize,
+}
+
+// What stands at `from`, sixteen bytes at most, one by one. An FF that escapes is stored too, and what
+// it escapes takes its place: no branch, which the processor could guess wrong.
+fn put_few(bytes: &[u8], from: usize, out: &mut [u8], to: usize, most: usize) -> Stored
+    requires { ⌜ (most ≡ length (textOf (reading (drop from (now bytes))))) × (to + most ≤ length (now out)) × (0 < most) ⌝ }
+    ensures { λ r. ⌜ (0 < r .count) × (r .count + length (textOf (reading (drop (r .next) (now (bytes .entry))))) ≡ most) × (over (now (out .exit)) (to + r .count) (textOf (reading (drop (r .next) (now (bytes .entry))))) ≡ over (now (out .entry)) to (textOf (reading (drop from (now (bytes .entry)))))) ⌝ }
 {
-    let few = put_few(bytes, from, out, to);
-    if few - from < 16 {
-        return few;
+    let mut count: usize = 0;
+    let mut i = from;
+    let mut escaped = false;
+    while count < most {
+        let b = bytes[i];
+        out[to + count] = b;
+        escaped = opens(b, escaped);
+        if !escaped {
+            count += 1;
+        }
+        i += 1;
+        if i - from == 16 {
+            if escaped {
+                return Stored { count, next: i - 1 };
+            }
+            return Stored { count, next: i };
+        }
     }
-    let end = skip_blocks(bytes, few);
-    wire::put_bytes(out, to + 16, &bytes[few..end]);
-    end
+    Stored { count, next: i }
 }
 
 // What pairs from `from` on escape, eight at most; the answer is how many.
@@ -294,9 +304,16 @@ fn store_escaped(bytes: &[u8], at: usize, out: &mut [u8], to: usize, len: usize)
             n += pairs;
             i += 2 * pairs;
         } else {
-            let end = put_run(bytes, i, out, to + n);
-            n += end - i;
-            i = end;
+            let end = skip_blocks(bytes, i);
+            if i < end {
+                wire::put_bytes(out, to + n, &bytes[i..end]);
+                n += end - i;
+                i = end;
+            } else {
+                let few = put_few(bytes, i, out, to + n, len - n);
+                n += few.count;
+                i = few.next;
+            }
         }
     }
 }

@@ -1,8 +1,7 @@
 use mathlib.Core.Path.{_≡_, refl, subst, sym, ap}
-use Prim.Native.Nat.{_+_, _*_, _-_, _≤_, _<_}
+use Prim.Native.Nat.{_+_, _*_, _-_, _≤_}
 use native.Mathlib.Omega.{arith}
 use lib.ListN.{length, drop, length-set}
-use borrow.Author.Needs.{needs}
 use Rattle.wire.specs.Bytes.{over}
 use Rattle.wire.proofs.Over.{Ahead}
 use Rattle.basex_string.specs.Scan.{reading}

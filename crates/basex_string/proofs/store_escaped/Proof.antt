@@ -1,4 +1,4 @@
-use mathlib.Core.Path.{_≡_, refl, sym, _∙_}
+use mathlib.Core.Path.{_≡_, refl, _∙_}
 use mathlib.Core.List.{List}
 use Prim.Native.Nat.{ℕ, _+_, _-_}
 use native.Mathlib.Omega.{arith}
@@ -7,10 +7,10 @@ use borrow.Author.Needs.{needs}
 use Rattle.wire.specs.Bytes.{over}
 use Rattle.wire.proofs.Over.{Ahead}
 use Rattle.basex_string.specs.Scan.{reading}
-use Rattle.basex_string.specs.Answers.{run, textOf}
-use Rattle.basex_string.proofs.Steps.{ahead-from, ahead-none, ahead-put, ahead-on}
+use Rattle.basex_string.specs.Answers.{textOf}
+use Rattle.basex_string.proofs.Steps.{ahead-from, ahead-none, ahead-run, ahead-on}
 use Rattle.basex_string.proofs.Scans.{text-here}
-use Rattle.basex_string.proofs.Runs.{run-size, run-text, run-text-size, run-ends, text-goes}
+use Rattle.basex_string.proofs.Runs.{run-fits, run-size, run-text, run-text-size}
 use Rattle.basex_string.proofs.store_escaped.Statement.{statement}
 use Rattle.basex_string.proofs.store_escaped.Tie as tie
 
@@ -56,53 +56,83 @@ loop-again c =
     let l = p .kept .1 .1 .0 in
     (l ∙ v .0, (omega arith, ahead-on (v .1 .1) (p .ensures .3) (omega arith) (omega arith)))
 
-add-put-run : tie.Need-add-put-run Inv-loop μ-loop
-add-put-run c = omega arith
+skip-blocks-requires : tie.Need-skip-blocks-requires Inv-loop μ-loop
+skip-blocks-requires c κs = search needs
 
-put-run-requires : tie.Need-put-run-requires Inv-loop μ-loop
-put-run-requires c κs =
-    let s = c .before .before .before .before .before .before .before .args .bytes .now in
-    let i = c .before .before .before .before .loop .i in
-    let e = run-ends s i (omega arith) in
-    let f = run-text-size s i (i + run (drop i s)) (omega arith) (omega arith) (omega arith) (omega arith) in
-    (e, omega arith)
+add-put-bytes : tie.Need-add-put-bytes Inv-loop μ-loop
+add-put-bytes c = omega arith
+
+sub-put-bytes : tie.Need-sub-put-bytes Inv-loop μ-loop
+sub-put-bytes c = omega arith
+
+part-put-bytes-start : tie.Need-part-put-bytes-start Inv-loop μ-loop
+part-put-bytes-start c = omega arith
+
+part-put-bytes-end : tie.Need-part-put-bytes-end Inv-loop μ-loop
+part-put-bytes-end c =
+    let s = c .before .before .before .before .before .before .before .before .before .args .bytes .now in
+    let i = c .before .before .before .before .before .before .loop .i in
+    let h = text-here s i (omega arith) in
+    run-fits s i (c .before .before .skip-blocks .result) (omega arith) (omega arith) (omega arith)
+
+put-bytes-requires : tie.Need-put-bytes-requires Inv-loop μ-loop
+put-bytes-requires c κs = search needs
 
 sub-n : tie.Need-sub-n Inv-loop μ-loop
 sub-n c = omega arith
 
 add-n-2 : tie.Need-add-n-2 Inv-loop μ-loop
 add-n-2 c =
-    let s = c .before .before .before .before .before .before .before .before .before .before .args .bytes .now in
-    let i = c .before .before .before .before .before .before .before .loop .i in
-    let r = c .before .before .put-run .result in
+    let s = c .before .before .before .before .before .before .before .before .before .before .before .before .before .args .bytes .now in
+    let i = c .before .before .before .before .before .before .before .before .before .before .loop .i in
+    let r = c .before .before .before .before .before .before .skip-blocks .result in
     let h = text-here s i (omega arith) in
-    let g = text-goes s i (omega arith) (c .before .before .before .before .if1 .left) in
     let l = run-text-size s i r (omega arith) (omega arith) (omega arith) (omega arith) in
     omega arith
 
 loop-less-2 : tie.Need-loop-less-2 Inv-loop μ-loop
 loop-less-2 c =
-    let s = c .before .before .before .before .before .before .before .before .before .before .args .bytes .now in
-    let i = c .before .before .before .before .before .before .before .loop .i in
-    let r = c .before .before .put-run .result in
+    let s = c .before .before .before .before .before .before .before .before .before .before .before .before .before .args .bytes .now in
+    let i = c .before .before .before .before .before .before .before .before .before .before .loop .i in
+    let r = c .before .before .before .before .before .before .skip-blocks .result in
     let h = text-here s i (omega arith) in
-    let g = text-goes s i (omega arith) (c .before .before .before .before .if1 .left) in
     let l = run-text-size s i r (omega arith) (omega arith) (omega arith) (omega arith) in
     omega arith
 
 loop-again-2 : tie.Need-loop-again-2 Inv-loop μ-loop
 loop-again-2 c =
-    let s = c .before .before .before .before .before .before .before .before .before .before .args .bytes .now in
-    let i = c .before .before .before .before .before .before .before .loop .i in
-    let r = c .before .before .put-run .result in
+    let s = c .before .before .before .before .before .before .before .before .before .before .before .before .before .args .bytes .now in
+    let i = c .before .before .before .before .before .before .before .before .before .before .loop .i in
+    let r = c .before .before .before .before .before .before .skip-blocks .result in
     let h = text-here s i (omega arith) in
-    let g = text-goes s i (omega arith) (c .before .before .before .before .if1 .left) in
     let l = run-text-size s i r (omega arith) (omega arith) (omega arith) (omega arith) in
-    let v = c .before .before .before .before .before .before .before .loop .inv in
+    let v = c .before .before .before .before .before .before .before .before .before .before .loop .inv in
     let x : List ℕ = take (r - i) (drop i s) in
     let z = run-size s i r (omega arith) (omega arith) (omega arith) in
     let t = run-text s i r (omega arith) (omega arith) (omega arith) in
-    (c .before .before .put-run .kept .1 .1 .0 ∙ v .0, (omega arith, ahead-put x t (c .before .before .before .before .before .before .before .before .before .before .args .to + (c .before .before .before .before .before .before .before .loop .n + (r - i))) (v .1 .1) (c .before .before .put-run .ensures .2) (omega arith)))
+    (c .before .before .put-bytes .kept .0 ∙ v .0, (omega arith, ahead-run x t (c .before .before .before .before .before .before .before .before .before .before .before .before .before .args .to + (c .before .before .before .before .before .before .before .before .before .before .loop .n + (r - i))) (v .1 .1) (c .before .before .put-bytes .ensures) (omega arith)))
+
+add-put-few : tie.Need-add-put-few Inv-loop μ-loop
+add-put-few c = omega arith
+
+sub-put-few : tie.Need-sub-put-few Inv-loop μ-loop
+sub-put-few c = omega arith
+
+put-few-requires : tie.Need-put-few-requires Inv-loop μ-loop
+put-few-requires c κs = (omega arith, omega arith, omega arith)
+
+add-n-3 : tie.Need-add-n-3 Inv-loop μ-loop
+add-n-3 c = omega arith
+
+loop-less-3 : tie.Need-loop-less-3 Inv-loop μ-loop
+loop-less-3 c = omega arith
+
+loop-again-3 : tie.Need-loop-again-3 Inv-loop μ-loop
+loop-again-3 c =
+    let v = c .before .before .before .before .before .before .before .before .before .before .loop .inv in
+    let p = c .before .before .before .put-few in
+    let l = p .kept .1 .1 .0 in
+    (l ∙ v .0, (omega arith, ahead-on (v .1 .1) (p .ensures .2) (omega arith) (omega arith)))
 
 same-length : tie.Need-same-length Inv-loop μ-loop
 same-length c = c .before .loop .inv .0
@@ -126,11 +156,21 @@ store-escaped-spec =
     add-i
     loop-less
     loop-again
-    add-put-run
-    put-run-requires
+    skip-blocks-requires
+    add-put-bytes
+    sub-put-bytes
+    part-put-bytes-start
+    part-put-bytes-end
+    put-bytes-requires
     sub-n
     add-n-2
     loop-less-2
     loop-again-2
+    add-put-few
+    sub-put-few
+    put-few-requires
+    add-n-3
+    loop-less-3
+    loop-again-3
     same-length
     returns)
