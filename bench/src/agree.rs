@@ -5,6 +5,7 @@ mod cutting;
 mod joining;
 mod reading;
 mod stepping;
+mod strings;
 mod tally;
 mod writing;
 
@@ -35,6 +36,7 @@ pub fn run() -> Result<Tally, Disagreement> {
     stepping::compare(&mut tally)?;
     cutting::compare(&mut tally)?;
     joining::compare(&mut tally)?;
+    strings::compare(&mut tally)?;
     tally.complete()?;
     Ok(tally)
 }

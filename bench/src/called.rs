@@ -1,6 +1,7 @@
 //! The plain implementation behind the boundary that the library has: functions that are called and
 //! not inlined, and a message told as ten numbers. What a caller of a compiled library would get.
 
+pub mod basex;
 pub mod parts;
 
 use crate::library::FIELDS;

@@ -9,6 +9,7 @@ mod gatherings;
 mod requests;
 mod rng;
 mod sets;
+pub mod strings;
 mod sweep;
 mod valid;
 mod walks;

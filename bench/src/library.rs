@@ -1,5 +1,6 @@
 //! The library behind its C functions. A slice passes as pointer and length.
 
+pub mod basex;
 pub mod parts;
 
 use bench::plain::Value;

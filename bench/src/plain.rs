@@ -1,6 +1,7 @@
-//! Sedna messages, sessions, cutting and joining in plain, safe Rust, written from document 01
-//! and from nothing of the library: the other side of every comparison.
+//! Sedna messages, sessions, cutting and joining, and BaseX strings in plain, safe Rust, written from
+//! document 01 and from nothing of the library: the other side of every comparison.
 
+pub mod basex;
 mod cut;
 mod gather;
 pub mod instruction;
@@ -27,7 +28,7 @@ pub const BODY_MAX: usize = 10_240;
 /// Instruction and body length.
 pub const HEAD: usize = 8;
 
-/// Document 01's refusal numbers, as far as Sedna's messages have them.
+/// Document 01's refusal numbers, as far as they are met here.
 pub mod refusal {
     pub const MORE_NEEDED: u8 = 1;
     pub const UNKNOWN: u8 = 2;
@@ -41,6 +42,7 @@ pub mod refusal {
     pub const NO_ROOM: u8 = 10;
     pub const NO_ENCODING: u8 = 11;
     pub const BUFFER_OVERRUN: u8 = 12;
+    pub const BAD_ESCAPE: u8 = 13;
     pub const NO_SUCH_PART: u8 = 14;
 }
 

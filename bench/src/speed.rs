@@ -4,9 +4,11 @@ mod parts;
 mod reading;
 mod rounds;
 mod stepping;
+mod strings;
 mod writing;
 
-use bench::inputs::{day, full, shuffled, small, Input};
+use bench::inputs::strings::{dense, pieces, xml};
+use bench::inputs::{big_text, day, full, shuffled, small, Input};
 use bench::plain::What;
 use parts::Work;
 
@@ -31,6 +33,8 @@ pub fn run() {
     steps(&day());
     println!();
     cuts();
+    println!();
+    strings();
 }
 
 fn row(name: &str, set: &[Input]) {
@@ -74,4 +78,31 @@ fn cuts() {
 
 fn ratios(name: &str, [copy, called, inlined]: parts::Ratios) {
     println!("{name:<34}{copy:<11.2}{called:<11.2}{inlined:.2}");
+}
+
+fn strings() {
+    println!(
+        "BaseX strings: time of the plain code over library time; the plain code goes byte by"
+    );
+    println!("byte, and in runs between the escapes:");
+    let sets = [
+        ("XML, 1,000,000 bytes", vec![xml()]),
+        ("random, 1,000,000 bytes", vec![big_text()]),
+        ("zeros, 1,000,000 bytes", vec![vec![0; 1_000_000]]),
+        ("one in eight 00 or FF, 1,000,000", vec![dense(8)]),
+        ("one in 5,000 00 or FF, 1,000,000", vec![dense(5_000)]),
+        ("XML, 8 bytes", pieces(8)),
+        ("XML, 32 bytes", pieces(32)),
+    ];
+    let works = sets.map(|(name, texts)| (name, strings::Work::new(texts)));
+    string_table("called", works.each_ref().map(|(name, work)| (*name, work.called())));
+    string_table("inlined", works.each_ref().map(|(name, work)| (*name, work.inlined())));
+}
+
+fn string_table<const N: usize>(how: &str, rows: [(&str, strings::Ratios); N]) {
+    println!("{how:<34}{:<22}{:<22}", "writing", "decoding");
+    println!("{:<34}{:<11}{:<11}{:<11}in runs", "", "by bytes", "in runs", "by bytes");
+    for (name, [a, b, c, d]) in rows {
+        println!("{name:<34}{a:<11.2}{b:<11.2}{c:<11.2}{d:.2}");
+    }
 }

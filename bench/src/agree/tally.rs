@@ -5,12 +5,14 @@ use bench::inputs::MESSAGES;
 use std::collections::BTreeMap;
 use std::fmt;
 
-/// The refusals that reading, writing, stepping, cutting and joining can give.
+/// The refusals that reading, writing, stepping, cutting and joining can give, and those of strings.
 const READING: [u8; 8] = [1, 2, 3, 4, 5, 6, 7, 8];
 const WRITING: [u8; 4] = [2, 8, 10, 11];
 const STEPPING: [u8; 9] = [1, 2, 3, 4, 5, 6, 7, 8, 9];
 const CUTTING: [u8; 4] = [8, 10, 11, 14];
 const JOINING: [u8; 10] = [1, 2, 3, 4, 5, 6, 7, 8, 9, 12];
+const SPELLING: [u8; 1] = [10];
+const DECODING: [u8; 3] = [1, 10, 13];
 
 #[derive(Default)]
 pub struct Tally {
@@ -31,6 +33,10 @@ pub struct Tally {
     finished: usize,
     join_refused: BTreeMap<u8, usize>,
     gatherings: usize,
+    spelled: usize,
+    spell_refused: BTreeMap<u8, usize>,
+    decoded: usize,
+    decode_refused: BTreeMap<u8, usize>,
 }
 
 impl Tally {
@@ -78,6 +84,20 @@ impl Tally {
         }
     }
 
+    pub fn spell(&mut self, answer: Result<(), u8>) {
+        match answer {
+            Ok(()) => self.spelled += 1,
+            Err(number) => *self.spell_refused.entry(number).or_default() += 1,
+        }
+    }
+
+    pub fn decode(&mut self, answer: Result<(), u8>) {
+        match answer {
+            Ok(()) => self.decoded += 1,
+            Err(number) => *self.decode_refused.entry(number).or_default() += 1,
+        }
+    }
+
     /// Every message accepted and every refusal met, or the comparison says less
     /// than it seems to.
     pub fn complete(&self) -> Result<(), Disagreement> {
@@ -88,7 +108,9 @@ impl Tally {
         let stepping = STEPPING.iter().all(|n| self.step_refused.contains_key(n));
         let cutting = CUTTING.iter().all(|n| self.cut_refused.contains_key(n));
         let joining = JOINING.iter().all(|n| self.join_refused.contains_key(n));
-        if messages && reading && writing && steps && stepping && cutting && joining {
+        let strings = SPELLING.iter().all(|n| self.spell_refused.contains_key(n))
+            && DECODING.iter().all(|n| self.decode_refused.contains_key(n));
+        if messages && reading && writing && steps && stepping && cutting && joining && strings {
             Ok(())
         } else {
             Err(format!("a message or a refusal was never met\n{self}"))
@@ -119,6 +141,15 @@ impl Tally {
             self.joined, self.finished, self.join_refused
         )
     }
+
+    fn show_strings(&self, f: &mut fmt::Formatter) -> fmt::Result {
+        let spell_refused: usize = self.spell_refused.values().sum();
+        let decode_refused: usize = self.decode_refused.values().sum();
+        let (spelled, decoded) = (self.spelled + spell_refused, self.decoded + decode_refused);
+        writeln!(f, "agree: {spelled} strings written, {decoded} decoded")?;
+        writeln!(f, "  writing: {} accepted, refused {:?}", self.spelled, self.spell_refused)?;
+        write!(f, "  decoding: {} accepted, refused {:?}", self.decoded, self.decode_refused)
+    }
 }
 
 impl fmt::Display for Tally {
@@ -137,6 +168,8 @@ impl fmt::Display for Tally {
         writeln!(f, "  writing: {} accepted, refused {:?}", self.written, self.write_refused)?;
         self.show_steps(f)?;
         writeln!(f)?;
-        self.show_parts(f)
+        self.show_parts(f)?;
+        writeln!(f)?;
+        self.show_strings(f)
     }
 }

@@ -3,6 +3,7 @@
 mod cutting;
 mod joining;
 mod reading;
+mod strings;
 mod writing;
 
 use super::Side::{Client, Server};

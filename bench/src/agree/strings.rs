@@ -1,0 +1,122 @@
+//! BaseX strings: the library against both plain ways, every answer and every byte of the output
+//! and behind it; and what was written is decoded again.
+
+use super::writing::pattern;
+use super::{hex, Disagreement, Tally};
+use crate::library::basex::{self as library, DECODED, WRITTEN};
+use bench::inputs::strings::{readings, spellings, Reading, Spelling};
+use bench::plain::basex::{bytes, runs, Place};
+use bench::plain::refusal::NO_ROOM;
+use std::fmt::Debug;
+
+/// Bytes behind the lent output that nobody may touch.
+const GUARD: usize = 64;
+
+pub fn compare(tally: &mut Tally) -> Result<(), Disagreement> {
+    for spelling in spellings() {
+        let answer = compare_writing(&spelling)?;
+        tally.spell(answer.map(|_| ()));
+    }
+    for reading in readings() {
+        let answer = compare_decoding(&reading)?;
+        tally.decode(answer.map(|_| ()));
+    }
+    too_few_numbers()
+}
+
+fn compare_writing(spelling: &Spelling) -> Result<Result<usize, u8>, Disagreement> {
+    let Spelling { text, room, at } = spelling;
+    let what = || format!("writing at {at} {}", hex(text));
+    let lengths = [bytes::string_len(text), runs::string_len(text), library::string_len(text)];
+    let answer = same(
+        *room,
+        [
+            &mut |out| bytes::write_string(out, *at, text),
+            &mut |out| runs::write_string(out, *at, text),
+            &mut |out| library::write_string(out, *at, text),
+        ],
+        |answer| answer.map_or(0..0, |count| *at..*at + count),
+        what,
+    )?;
+    let [length, ..] = lengths;
+    if lengths != [length; 3] || answer.is_ok_and(|count| count != length) {
+        return Err(format!("lengths {lengths:?}, {}", what()));
+    }
+    decoded_again(text)?;
+    Ok(answer)
+}
+
+/// What the library writes, it decodes again.
+fn decoded_again(text: &[u8]) -> Result<(), Disagreement> {
+    let mut string = vec![0; library::string_len(text)];
+    let mut out = vec![0; text.len()];
+    let written = library::write_string(&mut string, 0, text);
+    let decoded = library::decode(&string, 0, &mut out, 0);
+    let whole = Place { len: text.len(), next: string.len() };
+    match written == Ok(string.len()) && decoded == Ok(whole) && out == text {
+        true => Ok(()),
+        false => Err(format!("{written:?} {decoded:?}, written and decoded: {}", hex(text))),
+    }
+}
+
+fn compare_decoding(reading: &Reading) -> Result<Result<Place, u8>, Disagreement> {
+    let Reading { bytes: from, at, room, to } = reading;
+    same(
+        *room,
+        [
+            &mut |out| bytes::decode(from, *at, out, *to),
+            &mut |out| runs::decode(from, *at, out, *to),
+            &mut |out| library::decode(from, *at, out, *to),
+        ],
+        |answer| answer.map_or(0..0, |place| *to..*to + place.len),
+        || format!("decoding at {at} to {to}: {}", hex(from)),
+    )
+}
+
+type Call<'a, A> = &'a mut dyn FnMut(&mut [u8]) -> Result<A, u8>;
+
+/// All three calls, each with `room` bytes of its own; nothing changes but what `stored` says.
+fn same<A: Copy + Debug + PartialEq>(
+    room: usize,
+    calls: [Call<A>; 3],
+    stored: impl Fn(Result<A, u8>) -> std::ops::Range<usize>,
+    what: impl Fn() -> String,
+) -> Result<Result<A, u8>, Disagreement> {
+    let [first, second, third] = calls.map(|call| {
+        let mut out: Vec<_> = (0..room + GUARD).map(pattern).collect();
+        let answer = call(&mut out[..room]);
+        (answer, out)
+    });
+    if first != second || first != third {
+        return Err(format!("into {room} bytes, {}\n{first:?}\n{second:?}\n{third:?}", what()));
+    }
+    let (answer, out) = first;
+    let stored = stored(answer);
+    match (0..room + GUARD).find(|at| !stored.contains(at) && out[*at] != pattern(*at)) {
+        Some(at) => Err(format!("byte {at} changed, into {room} bytes, {}", what())),
+        None => Ok(answer),
+    }
+}
+
+/// With too few numbers lent, 10 at once, and nothing is stored.
+fn too_few_numbers() -> Result<(), Disagreement> {
+    let mut out = [7; 9];
+    let mut told = [9; DECODED + 1];
+    let mut answers = vec![library::spell(&mut out, 0, b"a", &mut told[..WRITTEN - 1])];
+    for lent in 0..DECODED {
+        for string in [&b"a\0"[..], b"a", b"\xFFa"] {
+            answers.push(library::read(string, 0, &mut out, 0, &mut told[..lent]));
+        }
+    }
+    let refused = answers.iter().all(|&answer| answer == Err(NO_ROOM));
+    // A refused string tells nothing, and numbers behind those that are told stay as they were.
+    let bad = library::read(b"\xFFa", 0, &mut out, 0, &mut told);
+    if !refused || bad.is_ok() || out != [7; 9] || told != [9; DECODED + 1] {
+        return Err(format!("too few numbers: {answers:?} {bad:?} {out:?} {told:?}"));
+    }
+    let sound = library::read(b"ab\0", 0, &mut out, 0, &mut told);
+    match sound == Ok(0) && told == [2, 3, 9] {
+        true => Ok(()),
+        false => Err(format!("told {told:?}, {sound:?}")),
+    }
+}
