@@ -72,7 +72,7 @@ module _ (o : Offer) where
           met m n e (settled s m n (next (s .phase) (s .version) (m .instruction)))
           (settles i m n (published-sent (exact (o .side) (o .bytes) (o .are-bytes) m n .0 e .0)))
 
-messages-cons : (a : Answer) (answers : List Answer) → messages (a ∷ []) ++ messages answers ≡ messages (a ∷ answers)
+pub messages-cons : (a : Answer) (answers : List Answer) → messages (a ∷ []) ++ messages answers ≡ messages (a ∷ answers)
 messages-cons (Answer.refused r) answers = refl
 messages-cons (Answer.accepted m n) answers = refl
 

@@ -1,0 +1,84 @@
+-- Demand 3, drawn for the records of a transcript: over the very list of records that the transcript program prints a line for, and what it answers each.
+use mathlib.Core.Bool.{true, false}
+use mathlib.Core.List.{List, [], _∷_, _++_}
+use mathlib.Core.Logic.{_↔_}
+use mathlib.Core.Path.{_≡_}
+use Prim.Native.Nat.{ℕ, _<_}
+use lib.Dec.{eqb}
+use lib.ListN.{length}
+use Rattle.wire.specs.Bytes.{IsBytes, if}
+use Rattle.wire.specs.Refusals.{numberOf}
+use Rattle.wire.specs.declared.Refusal.{Refusal}
+use Rattle.sedna.specs.Message.{Message}
+use Rattle.sedna_read.specs.Reading.{Answer, reading}
+use Rattle.grammar.specs.Conversation.{Whole, Begins}
+use Rattle.session.specs.Step.{freshSession}
+use Rattle.records.specs.Record.{Record, records}
+use Rattle.records.specs.Transcript.{answers, after, lines, saysClosed, saysOpen, saysDamaged, lastLine, printed}
+
+-- what a record's payload reads as
+abbrev pub readAs : Record → Answer
+readAs r = reading (r .side) (r .payload)
+
+-- the right answer to a record, 0 or a refusal's number, given the messages accepted before it
+pub data RightNumber (before : List Message) (r : Record) : ℕ → Type 0 where
+  -- "A message that 01's order of reading refuses ahead of its 9 got that refusal."
+  unread : {x : Refusal} → readAs r ≡ Answer.refused x → RightNumber before r (numberOf x)
+  -- "payload bytes after the message count as 7"
+  left-over : {m : Message} {n : ℕ} → readAs r ≡ Answer.accepted m n → n < length (r .payload) → RightNumber before r 7
+  -- "Any other was refused, and then with 9, exactly when no conversation begins with those accepted before it followed by it."
+  out-of-order : {m : Message} → readAs r ≡ Answer.accepted m (length (r .payload)) → ¬ Begins (before ++ (m ∷ [])) → RightNumber before r 9
+  -- all of the payload is one message that goes on
+  accepted : {m : Message} → readAs r ≡ Answer.accepted m (length (r .payload)) → Begins (before ++ (m ∷ [])) → RightNumber before r 0
+
+-- the message of a record that got 0
+abbrev pub messageOf : Answer → ℕ → List Message
+messageOf (Answer.refused r) x = []
+messageOf (Answer.accepted m n) x = if (eqb x 0) (m ∷ []) []
+
+-- the accepted messages, in their order
+abbrev pub acceptedOf : List Record → List ℕ → List Message
+acceptedOf [] xs = []
+acceptedOf (r ∷ rs) [] = []
+acceptedOf (r ∷ rs) (x ∷ xs) = messageOf (readAs r) x ++ acceptedOf rs xs
+
+-- each record of a list, one after another, got the right answer
+abbrev pub AllRight : List Message → List Record → List ℕ → Type 0
+AllRight before [] [] = Unit {0}
+AllRight before [] (x ∷ xs) = ⊥
+AllRight before (r ∷ rs) [] = ⊥
+AllRight before (r ∷ rs) (x ∷ xs) = RightNumber before r x × AllRight (before ++ messageOf (readAs r) x) rs xs
+
+-- the records of an input that lines are printed for
+abbrev pub recordsIn : List ℕ → List Record
+recordsIn input = records input .sound
+
+-- what they are answered, from a fresh session on
+abbrev pub numbersIn : List ℕ → List ℕ
+numbersIn input = answers freshSession (recordsIn input)
+
+-- the messages accepted of them
+abbrev pub acceptedIn : List ℕ → List Message
+acceptedIn input = acceptedOf (recordsIn input) (numbersIn input)
+
+-- the last line
+abbrev pub lastIn : List ℕ → List ℕ
+lastIn input = lastLine (records input .damaged) (after freshSession (recordsIn input))
+
+-- what holds of the records and their answers
+pub record Drawn (input : List ℕ) : Type 0 where
+  -- "The accepted messages, in their order, begin a conversation of document 01's grammar"
+  pub begun : Begins (acceptedIn input)
+  -- what each record got
+  pub judged : AllRight [] (recordsIn input) (numbersIn input)
+  -- "The session reports itself closed exactly when the accepted ones are a whole conversation": so says the last line, where the input is not damaged
+  pub closed : (lastIn input ≡ saysClosed) ↔ ((records input .damaged ≡ false) × Whole (acceptedIn input))
+  pub still-open : (lastIn input ≡ saysOpen) ↔ ((records input .damaged ≡ false) × ¬ Whole (acceptedIn input))
+  pub damaged : (lastIn input ≡ saysDamaged) ↔ (records input .damaged ≡ true)
+
+-- the bytes of a slice are bytes: `IsBytes input` is no condition on a caller
+pub record Demand3Transcript : Type 0 where
+  -- what is printed is a line for each of these records with its answer, and that last line ..
+  pub prints : (input : List ℕ) → printed input ≡ lines 1 (recordsIn input) (numbersIn input) ++ lastIn input
+  -- .. of which demand 3's claim holds
+  pub drawn : (input : List ℕ) → IsBytes input → Drawn input

@@ -1,0 +1,167 @@
+-- `records` reads exactly what the format says, and `decimal` spells its number.
+use mathlib.Core.Bool.{Bool, true, false}
+use mathlib.Core.List.{List, [], _∷_, _++_, append-assoc}
+use mathlib.Core.Path.{_≡_, refl, sym, ap, subst, _∙_}
+use Prim.Native.Nat.{ℕ, zero, suc, _+_, _-_, _*_, _/_, _%_, _≤_, _<_}
+use native.Mathlib.Omega.{arith}
+use lib.Dec.{ltb, eqb}
+use lib.ListN.{length, take, drop, length-append, take-append-drop}
+use lib.Seq.{length-take-le, take-append-seam, drop-append-seam}
+use borrow.Author.Tests.{le-ltb, eqb-true, ltb-false}
+use Rattle.wire.specs.Bytes.{IsBytes, if}
+use Rattle.sedna.specs.declared.Side.{Side}
+use Rattle.sedna.specs.declared.Side.the-variants.{Client, Server}
+use Rattle.sedna_exact.proofs.Branches.{apart, either}
+use Rattle.sedna_exact.proofs.Bytes.{bytes-front, bytes-behind}
+use Rattle.records.specs.declared.Head.the-variants as head
+use Rattle.records.specs.Format.{littleBytes, kindOf, recordBytes, transcript, Sound, Stops, spelt, Format}
+use Rattle.records.specs.Line.{digit, decimalUpTo}
+use Rattle.records.specs.Record.{little, sent, headOf, Record, recordOf, Front, behind, front, Records, fromFront, recordsUpTo, records}
+use Rattle.records.proofs.Runs.{shorter, records-front}
+
+-- six bytes that spell a length and a kind
+module _ (a b c d e f : ℕ) (s : List ℕ) where
+  abbrev size : ℕ
+  size = little (a ∷ b ∷ c ∷ d ∷ [])
+
+  abbrev kind : ℕ
+  kind = little (e ∷ f ∷ [])
+
+  head-six : headOf (a ∷ b ∷ c ∷ d ∷ e ∷ f ∷ s) ≡ if (ltb 10248 size) head.Damaged (sent kind size)
+  unfolding headOf
+  head-six = rw (le-ltb (length (a ∷ b ∷ c ∷ d ∷ e ∷ f ∷ s)) 6 (omega arith))
+
+kind-sent : (side : Side) (n : ℕ) → sent (little (littleBytes 2 (kindOf side))) n ≡ head.Record side n
+kind-sent Client n = refl
+kind-sent Server n = refl
+
+little-back : (n : ℕ) → n ≤ 10248 → little (littleBytes 4 n) ≡ n
+little-back n h = omega arith
+
+-- a record that was written out stands there, whatever follows
+front-written : (r : Record) (rest : List ℕ) → length (r .payload) ≤ 10248 → front (recordBytes r ++ rest) ≡ Front.sound r rest
+unfolding front
+front-written r rest h =
+    let p = r .payload in
+    let n = length p in
+    let z = little-back n h in
+    rw (head-six (n % 256) (n / 256 % 256) (n / 256 / 256 % 256) (n / 256 / 256 / 256 % 256) (kindOf (r .side) % 256) (kindOf (r .side) / 256 % 256) (p ++ rest), z, le-ltb 10248 n h, kind-sent (r .side) n, le-ltb (length (p ++ rest)) n (omega (arith, length-append p rest)))
+    (rw (take-append-seam p rest, drop-append-seam p rest))
+
+written : (rs : List Record) → Sound rs → records (transcript rs) ≡ record { sound = rs; damaged = false }
+unfolding recordsUpTo
+written [] h = refl
+written (r ∷ rs) h =
+    records-front (transcript (r ∷ rs))
+    ∙ ap (fromFront records) (front-written r (transcript rs) (h .0))
+    ∙ ap (λ (m : Records). record { sound = r ∷ m .sound; damaged = m .damaged }) (written rs (h .1))
+
+-- the record that stands in front, written out
+abbrev Written : List ℕ → Record → List ℕ → Type 0
+Written s r rest = (s ≡ recordBytes r ++ rest) × (length (r .payload) ≤ 10248)
+
+-- bytes are those of the number that they spell
+little-bytes : (s : List ℕ) → IsBytes s → littleBytes (length s) (little s) ≡ s
+little-bytes [] h = refl
+little-bytes (x ∷ s) h =
+    let b : x < 256 = h 0 in
+    let p : (x + 256 * little s) % 256 ≡ x = omega arith in
+    let q : (x + 256 * little s) / 256 ≡ little s = omega arith in
+    rw (p, q) (ap (λ (l : List ℕ). x ∷ l) (little-bytes s (λ i. h (suc i))))
+
+module _ (a b c d e f : ℕ) (s : List ℕ) (h : IsBytes (a ∷ b ∷ c ∷ d ∷ e ∷ f ∷ s)) (r : Record) (rest : List ℕ) where
+  -- a payload of n bytes
+  payload-back : (side : Side) (n : ℕ) → little (e ∷ f ∷ []) ≡ kindOf side → little (a ∷ b ∷ c ∷ d ∷ []) ≡ n → n ≤ 10248 → behind s (head.Record side n) ≡ Front.sound r rest
+      → Written (a ∷ b ∷ c ∷ d ∷ e ∷ f ∷ s) r rest
+  payload-back side n k l m p =
+      either (ltb (length s) n) _ _ p (λ cut q. apart (cc)) λ whole q.
+      let w = ltb-false (length s) n whole in
+      let x : recordOf side (take n s) ≡ r = cc in
+      let y : drop n s ≡ rest = cc in
+      let z = length-take-le n s w in
+      let four : littleBytes 4 n ≡ a ∷ b ∷ c ∷ d ∷ [] = ap (littleBytes 4) (sym l) ∙ little-bytes (a ∷ b ∷ c ∷ d ∷ []) (bytes-front (a ∷ b ∷ c ∷ d ∷ []) (e ∷ f ∷ s) h) in
+      let two : littleBytes 2 (kindOf side) ≡ e ∷ f ∷ [] = ap (littleBytes 2) (sym k) ∙ little-bytes (e ∷ f ∷ []) (bytes-front (e ∷ f ∷ []) s (bytes-behind (a ∷ b ∷ c ∷ d ∷ []) (e ∷ f ∷ s) h)) in
+      let all : recordBytes (recordOf side (take n s)) ++ drop n s ≡ a ∷ b ∷ c ∷ d ∷ e ∷ f ∷ s =
+      ap (λ (i : ℕ). littleBytes 4 i ++ (littleBytes 2 (kindOf side) ++ take n s) ++ drop n s) z
+      ∙ ap (λ (l : List ℕ). l ++ (littleBytes 2 (kindOf side) ++ take n s) ++ drop n s) four
+      ∙ ap (λ (l : List ℕ). a ∷ b ∷ c ∷ d ∷ (l ++ take n s ++ drop n s)) two
+      ∙ ap (λ (l : List ℕ). a ∷ b ∷ c ∷ d ∷ e ∷ f ∷ l) (take-append-drop n s) in
+      rw (← x, ← y) (sym all, omega arith)
+
+  kind-back : (n : ℕ) → little (a ∷ b ∷ c ∷ d ∷ []) ≡ n → n ≤ 10248 → behind s (sent (little (e ∷ f ∷ [])) n) ≡ Front.sound r rest → Written (a ∷ b ∷ c ∷ d ∷ e ∷ f ∷ s) r rest
+  kind-back n l m p = client (eqb (little (e ∷ f ∷ [])) 1) refl p
+    where
+      server : (t : Bool) → eqb (little (e ∷ f ∷ [])) 2 ≡ t → behind s (if t (head.Record Server n) head.Damaged) ≡ Front.sound r rest → Written (a ∷ b ∷ c ∷ d ∷ e ∷ f ∷ s) r rest
+      server true k p = payload-back Server n (eqb-true _ _ k) l m p
+      server false k p = apart (cc)
+
+      client : (t : Bool) → eqb (little (e ∷ f ∷ [])) 1 ≡ t
+          → behind s (if t (head.Record Client n) (if (eqb (little (e ∷ f ∷ [])) 2) (head.Record Server n) head.Damaged)) ≡ Front.sound r rest → Written (a ∷ b ∷ c ∷ d ∷ e ∷ f ∷ s) r rest
+      client true k p = payload-back Client n (eqb-true _ _ k) l m p
+      client false k p = server (eqb (little (e ∷ f ∷ [])) 2) refl p
+
+  six-back : front (a ∷ b ∷ c ∷ d ∷ e ∷ f ∷ s) ≡ Front.sound r rest → Written (a ∷ b ∷ c ∷ d ∷ e ∷ f ∷ s) r rest
+  unfolding front
+  six-back p = by (ltb 10248 (little (a ∷ b ∷ c ∷ d ∷ []))) refl (ap (behind s) (sym (head-six a b c d e f s)) ∙ p)
+    where
+      by : (t : Bool) → ltb 10248 (little (a ∷ b ∷ c ∷ d ∷ [])) ≡ t
+          → behind s (if t head.Damaged (sent (little (e ∷ f ∷ [])) (little (a ∷ b ∷ c ∷ d ∷ [])))) ≡ Front.sound r rest → Written (a ∷ b ∷ c ∷ d ∷ e ∷ f ∷ s) r rest
+      by true q p = apart (cc)
+      by false q p = kind-back (little (a ∷ b ∷ c ∷ d ∷ [])) refl (ltb-false _ _ q) p
+
+front-back : (s : List ℕ) → IsBytes s → (r : Record) (rest : List ℕ) → front s ≡ Front.sound r rest → Written s r rest
+unfolding front headOf
+front-back [] h r rest p = apart (cc)
+front-back (a ∷ []) h r rest p = apart (cc)
+front-back (a ∷ b ∷ []) h r rest p = apart (cc)
+front-back (a ∷ b ∷ c ∷ []) h r rest p = apart (cc)
+front-back (a ∷ b ∷ c ∷ d ∷ []) h r rest p = apart (cc)
+front-back (a ∷ b ∷ c ∷ d ∷ e ∷ []) h r rest p = apart (cc)
+front-back (a ∷ b ∷ c ∷ d ∷ e ∷ f ∷ s) h r rest p = six-back a b c d e f s h r rest p
+
+stops-upTo : (most : ℕ) (s : List ℕ) → length s ≤ most → IsBytes s → Stops s (recordsUpTo most s)
+unfolding recordsUpTo front
+stops-upTo zero [] l h = record { sound = tt; rest = []; split = refl; ends = refl }
+stops-upTo zero (b ∷ s) l h = absurd (omega arith)
+stops-upTo (suc most) s l h = by (front s) refl (stops-upTo most)
+  where
+    by : (f : Front) → front s ≡ f → ((rest : List ℕ) → length rest ≤ most → IsBytes rest → Stops rest (recordsUpTo most rest)) → Stops s (fromFront (recordsUpTo most) f)
+    by Front.end e more = record { sound = tt; rest = s; split = refl; ends = e }
+    by Front.damaged e more = record { sound = tt; rest = s; split = refl; ends = e }
+    by (Front.sound r rest) e more =
+        let w = front-back s h r rest e in
+        let k = shorter s r rest e in
+        let b : IsBytes rest = bytes-behind (recordBytes r) rest (subst IsBytes (w .0) h) in
+        let t = more rest (omega arith) b in
+        record {
+          sound = (w .1, t .sound);
+          rest = t .rest;
+          split = w .0 ∙ ap (λ (l : List ℕ). recordBytes r ++ l) (t .split) ∙ sym (append-assoc (recordBytes r) (transcript (recordsUpTo most rest .sound)) (t .rest));
+          ends = t .ends;
+        }
+
+-- digits spelt one behind the other
+spelt-append : (n : ℕ) (s : List ℕ) (c : ℕ) → spelt n (s ++ (c ∷ [])) ≡ spelt n s * 10 + (c - 48)
+spelt-append n [] c = refl
+spelt-append n (x ∷ s) c = spelt-append (n * 10 + (x - 48)) s c
+
+digits-upTo : (most n : ℕ) → n < most → spelt 0 (decimalUpTo most n) ≡ n
+unfolding decimalUpTo
+digits-upTo zero n h = absurd (omega arith)
+digits-upTo (suc most) n h = by (ltb n 10) refl (digits-upTo most (n / 10))
+  where
+    by : (t : Bool) → ltb n 10 ≡ t → (n / 10 < most → spelt 0 (decimalUpTo most (n / 10)) ≡ n / 10)
+        → spelt 0 (if t (digit n ∷ []) (decimalUpTo most (n / 10) ++ (digit (n % 10) ∷ []))) ≡ n
+    by true e more = omega arith
+    by false e more =
+        let l = ltb-false n 10 e in
+        let a = spelt-append 0 (decimalUpTo most (n / 10)) (digit (n % 10)) in
+        let b = more (omega arith) in
+        omega arith
+
+pub format : Format
+format = record {
+  read-written = written;
+  stops = λ s h. stops-upTo (length s) s (omega arith) h;
+  digits-back = λ n. digits-upTo (suc n) n (omega arith);
+}

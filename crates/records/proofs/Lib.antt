@@ -1,0 +1,10 @@
+pub mod Decimals
+pub mod Example
+pub mod Formats
+pub mod Fronts
+pub mod Judged
+pub mod Lines
+pub mod Little
+pub mod Replays
+pub mod Rooms
+pub mod Runs

@@ -1,0 +1,61 @@
+-- The same sentence of document 01 written out, with no reader in it; and what it is for `records` and `decimal` to be right.
+use mathlib.Core.Bool.{Bool, true, false}
+use mathlib.Core.List.{List, [], _∷_, _++_}
+use mathlib.Core.Path.{_≡_}
+use Prim.Native.Nat.{ℕ, zero, suc, _+_, _-_, _*_, _/_, _%_, _≤_}
+use lib.ListN.{length}
+use Rattle.wire.specs.Bytes.{IsBytes}
+use Rattle.sedna.specs.declared.Side.{Side}
+use Rattle.sedna.specs.declared.Side.the-variants.{Client, Server}
+use Rattle.records.specs.Line.{decimal}
+use Rattle.records.specs.Record.{Record, Front, front, Records, records}
+
+-- a number in so many bytes, "little-endian"
+abbrev pub littleBytes : ℕ → ℕ → List ℕ
+littleBytes zero n = []
+littleBytes (suc k) n = n % 256 ∷ littleBytes k (n / 256)
+
+-- "1 client, 2 server"
+abbrev pub kindOf : Side → ℕ
+kindOf Client = 1
+kindOf Server = 2
+
+-- "payload length (four bytes, little-endian, ...), kind (two bytes, little-endian, ...), payload"
+abbrev pub recordBytes : Record → List ℕ
+recordBytes r = littleBytes 4 (length (r .payload)) ++ (littleBytes 2 (kindOf (r .side)) ++ r .payload)
+
+-- records one behind the other
+abbrev pub transcript : List Record → List ℕ
+transcript [] = []
+transcript (r ∷ rs) = recordBytes r ++ transcript rs
+
+-- "at most 10,248"
+abbrev pub Sound : List Record → Type 0
+Sound [] = Unit {0}
+Sound (r ∷ rs) = (length (r .payload) ≤ 10248) × Sound rs
+
+-- how the input goes on behind its records
+abbrev pub ending : Bool → Front
+ending true = Front.damaged
+ending false = Front.end
+
+-- an input is its records, written out, and behind them its end or what is damaged
+pub record Stops (s : List ℕ) (rs : Records) : Type 0 where
+  pub sound : Sound (rs .sound)
+  pub rest : List ℕ
+  pub split : s ≡ transcript (rs .sound) ++ rest
+  pub ends : front rest ≡ ending (rs .damaged)
+
+-- the number that digits spell behind those that spell n
+abbrev pub spelt : ℕ → List ℕ → ℕ
+spelt n [] = n
+spelt n (c ∷ s) = spelt (n * 10 + (c - 48)) s
+
+-- the bytes of a slice are bytes: `IsBytes s` is no condition on a caller
+pub record Format : Type 0 where
+  -- records that are written out are read again
+  pub read-written : (rs : List Record) → Sound rs → records (transcript rs) ≡ record { sound = rs; damaged = false }
+  -- and what is read was written so, up to the end or the damage
+  pub stops : (s : List ℕ) → IsBytes s → Stops s (records s)
+  -- the digits of a number spell it
+  pub digits-back : (n : ℕ) → spelt 0 (decimal n) ≡ n
