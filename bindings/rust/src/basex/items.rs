@@ -1,0 +1,58 @@
+//! The items of a response.
+
+use super::request::split;
+use super::Kind;
+use crate::raw::basex as raw;
+use core::iter::FusedIterator;
+
+/// An item of a response to RESULTS or FULL.
+#[derive(Clone, Copy, Debug, PartialEq, Eq)]
+pub struct Item<'a> {
+    /// The id of its type, 7 to 15 or 32 to 83.
+    pub id: u8,
+    /// Its URI, which may be empty: in FULL after the ids 12, 14 and 82, else none.
+    pub uri: Option<&'a [u8]>,
+    /// Its text.
+    pub text: &'a [u8],
+}
+
+/// The items of a response that was read, one after another.
+#[derive(Clone, Debug)]
+pub struct Items<'a> {
+    kind: Kind,
+    /// The response, as it was read.
+    bytes: &'a [u8],
+    /// Where the next one starts.
+    at: usize,
+    /// The decoded texts of those that are left.
+    texts: &'a [u8],
+    left: usize,
+}
+
+impl<'a> Items<'a> {
+    pub(super) fn new(kind: Kind, bytes: &'a [u8], texts: &'a [u8], count: usize) -> Self {
+        Self { kind, bytes, at: 0, texts, left: count }
+    }
+}
+
+impl<'a> Iterator for Items<'a> {
+    type Item = Item<'a>;
+
+    fn next(&mut self) -> Option<Item<'a>> {
+        // Behind the last item stands no item; and where there are none, other fields do.
+        self.left = self.left.checked_sub(1)?;
+        let read = raw::item(self.kind == Kind::FULL, self.bytes, self.at);
+        let [id, uri, text, next] = read.ok().flatten().expect("the items were read before");
+        self.at = next;
+        let (id, uri, text) = (id as u8, split(&mut self.texts, uri), split(&mut self.texts, text));
+        Some(Item { id, uri: self.kind.has_uri(id).then_some(uri), text })
+    }
+
+    fn size_hint(&self) -> (usize, Option<usize>) {
+        (self.left, Some(self.left))
+    }
+}
+
+impl ExactSizeIterator for Items<'_> {}
+
+impl FusedIterator for Items<'_> {}

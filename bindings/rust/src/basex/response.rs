@@ -1,0 +1,73 @@
+//! Responses, read knowing the request.
+
+use super::request::split;
+use super::{Items, Kind};
+use crate::raw::basex as raw;
+use crate::refusal::Refusal;
+
+/// A response that was read.
+#[derive(Clone, Debug)]
+pub struct Response<'a> {
+    /// The kind of the request that it answers.
+    pub kind: Kind,
+    /// Its items: none but for RESULTS and FULL.
+    pub items: Items<'a>,
+    /// All else.
+    pub end: End<'a>,
+}
+
+/// All of a response but its items.
+#[derive(Clone, Copy, Debug, PartialEq, Eq)]
+pub struct End<'a> {
+    /// The strings ahead of the status: two for COMMAND, none for RESULTS and FULL, one for all
+    /// others; those that are not taken are empty.
+    pub texts: [&'a [u8]; 2],
+    /// 00, or 01 where the request has failed.
+    pub status: u8,
+    /// The string behind status 01; empty behind 00, and for COMMAND, CREATE, ADD, PUT and
+    /// PUTBINARY, whose last text is the error.
+    pub error: &'a [u8],
+}
+
+impl<'a> Response<'a> {
+    /// The error where the request has failed, wherever its kind has it.
+    pub fn failure(&self) -> Option<&'a [u8]> {
+        let End { texts: [first, second], status, error } = self.end;
+        let text = match self.kind {
+            Kind::CREATE | Kind::ADD | Kind::PUT | Kind::PUT_BINARY => first,
+            kind if kind.is_command() => second,
+            _ => error,
+        };
+        (status == 1).then_some(text)
+    }
+}
+
+/// Reads the response at the front of the bytes to a request of the kind, its texts into the output:
+/// the response, and how many bytes were read.
+///
+/// Refused with 1, 2 for a byte that starts no request, 8 and 13, and with 10 for an output that is
+/// too short for the texts.
+///
+/// ```
+/// use keddorimp::basex::{read_response, Item, Kind};
+///
+/// let mut out = [0; 16];
+/// let (response, count) = read_response(Kind::RESULTS, b"\x341\0\x342\0\0\0", &mut out)?;
+/// let items: Vec<_> = response.items.clone().collect();
+/// assert_eq!(items[0], Item { id: 52, uri: None, text: b"1" });
+/// assert_eq!((items.len(), response.failure(), count), (2, None, 8));
+/// # Ok::<(), keddorimp::Refusal>(())
+/// ```
+pub fn read_response<'a>(
+    kind: Kind,
+    bytes: &'a [u8],
+    out: &'a mut [u8],
+) -> Result<(Response<'a>, usize), Refusal> {
+    let [first, second, items, listed, status, error, count] =
+        raw::read_response(kind.0, bytes, out)?;
+    let mut rest: &[u8] = out;
+    let texts = [first, second].map(|len| split(&mut rest, len));
+    let items = Items::new(kind, bytes, split(&mut rest, listed), items);
+    let end = End { texts, status: status as u8, error: split(&mut rest, error) };
+    Ok((Response { kind, items, end }, count))
+}

@@ -1,0 +1,45 @@
+//! The Sedna client/server protocol and the BaseX protocol: safe wrappers over a library that is
+//! proved.
+//!
+//! The library reads and writes the messages of both protocols, keeps account of where a Sedna
+//! session stands, and cuts and joins long statements and items. It allocates nothing and copies
+//! nothing that it reads from Sedna; what it writes or decodes goes into a slice that the caller
+//! lends. Document 01 is the paper that says what it has to do, and what its fourteen refusals
+//! mean. A refused call has read and written nothing: session, output and buffer are as they were,
+//! but for the mark of an overfull [`sedna::Assembly`].
+//!
+//! ```
+//! use keddorimp::sedna::{read, Body, Instruction, Session, Side};
+//! use keddorimp::Refusal;
+//!
+//! // A StartUp; what stands behind it is not touched.
+//! let bytes = [0, 0, 0, 110, 0, 0, 0, 0, 42];
+//! let (message, count) = read(Side::Client, &bytes)?;
+//! assert_eq!(message.instruction, Instruction::START_UP);
+//! assert_eq!(message.body, Body::Empty);
+//! assert_eq!(count, 8);
+//!
+//! // A session takes it once, and from the client only.
+//! let mut session = Session::new();
+//! assert_eq!(session.step(Side::Server, &bytes), Err(Refusal::OtherSide));
+//! session.step(Side::Client, &bytes)?;
+//! assert_eq!(session.step(Side::Client, &bytes), Err(Refusal::OutOfOrder));
+//! assert!(!session.closed());
+//! # Ok::<(), Refusal>(())
+//! ```
+//!
+//! The wrappers judge nothing: what is refused, the library has refused.
+#![no_std]
+#![deny(unsafe_code)]
+#![warn(missing_docs)]
+
+#[cfg(not(all(target_arch = "x86_64", target_os = "linux")))]
+compile_error!("the archives are made for Linux on x86-64");
+
+pub mod basex;
+#[allow(unsafe_code)]
+mod raw;
+mod refusal;
+pub mod sedna;
+
+pub use refusal::Refusal;

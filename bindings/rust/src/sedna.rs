@@ -1,0 +1,41 @@
+//! Sedna's messages, sessions, and the cutting and joining of statements and items.
+//!
+//! [`read`] tells what the message at the front of some bytes is, and the writers put one into a
+//! lent output. A [`Session`] takes message after message and refuses what no conversation goes on
+//! with. A [`Cut`] writes a statement or an item of any length as messages, and an [`Assembly`]
+//! joins them again.
+
+mod assembly;
+mod cut;
+mod instruction;
+mod message;
+mod options;
+mod session;
+mod write;
+
+pub use assembly::{Assembly, Gathering, Joined};
+pub use cut::Cut;
+pub use instruction::Instruction;
+pub use message::{read, Body, Message};
+pub use options::{Options, Setting, Settings};
+pub use session::Session;
+pub use write::{
+    write_coded, write_empty, write_item, write_options, write_session, write_statement, write_text,
+};
+
+/// The longest body of a message.
+pub const BODY_MAX: usize = 10_240;
+
+/// The longest message: instruction, body length and body. An output of so many bytes has room for
+/// every message and every part of a cut.
+pub const MESSAGE_MAX: usize = 8 + BODY_MAX;
+
+/// Who sent a message.
+#[derive(Clone, Copy, Debug, PartialEq, Eq, Hash)]
+#[repr(u8)]
+pub enum Side {
+    /// The client.
+    Client = 1,
+    /// The server.
+    Server = 2,
+}

@@ -1,0 +1,89 @@
+//! Writing, one function for each shape of a body. A message is put into the front of the lent
+//! output whole, or nothing is; the answer is what was written.
+//!
+//! All are refused with 2 for an instruction that document 01's table lacks, 8 for one that has
+//! another shape and for values that are not allowed, 11 for a body above 10,240 bytes, and 10 for
+//! an output that is too short, in this order.
+
+use super::Instruction;
+use crate::raw::sedna as raw;
+use crate::refusal::Refusal;
+
+/// Writes a message without a body.
+pub fn write_empty(out: &mut [u8], instruction: Instruction) -> Result<&[u8], Refusal> {
+    let count = raw::write_empty(out, instruction.0)?;
+    Ok(&out[..count])
+}
+
+/// Writes SessionParameters; `version` is major and minor.
+pub fn write_session<'o>(
+    out: &'o mut [u8],
+    instruction: Instruction,
+    version: [u8; 2],
+    user: &[u8],
+    database: &[u8],
+) -> Result<&'o [u8], Refusal> {
+    let count = raw::write_session(out, instruction.0, version, user, database)?;
+    Ok(&out[..count])
+}
+
+/// Writes a message that is one string.
+pub fn write_text<'o>(
+    out: &'o mut [u8],
+    instruction: Instruction,
+    text: &[u8],
+) -> Result<&'o [u8], Refusal> {
+    let count = raw::write_text(out, instruction.0, text)?;
+    Ok(&out[..count])
+}
+
+/// Writes Execute or ExecuteLong; a long statement is written by a [`Cut`](super::Cut).
+pub fn write_statement<'o>(
+    out: &'o mut [u8],
+    instruction: Instruction,
+    format: u8,
+    text: &[u8],
+) -> Result<&'o [u8], Refusal> {
+    let count = raw::write_statement(out, instruction.0, format, text)?;
+    Ok(&out[..count])
+}
+
+/// Writes a message that is a code and a string.
+pub fn write_coded<'o>(
+    out: &'o mut [u8],
+    instruction: Instruction,
+    code: u32,
+    text: &[u8],
+) -> Result<&'o [u8], Refusal> {
+    let count = raw::write_coded(out, instruction.0, code, text)?;
+    Ok(&out[..count])
+}
+
+/// Writes SetOptions. Option k has `ids[k]` and the next `lengths[k]` bytes of `values`, in which
+/// the values stand one behind the other; lists that do not belong together are refused with 8.
+pub fn write_options<'o>(
+    out: &'o mut [u8],
+    instruction: Instruction,
+    ids: &[u32],
+    lengths: &[usize],
+    values: &[u8],
+) -> Result<&'o [u8], Refusal> {
+    let count = raw::write_options(out, instruction.0, ids, lengths, values)?;
+    Ok(&out[..count])
+}
+
+/// Writes ItemStart; a long item is written by a [`Cut`](super::Cut).
+pub fn write_item<'o>(
+    out: &'o mut [u8],
+    instruction: Instruction,
+    class: u8,
+    kind: u8,
+    url: Option<&[u8]>,
+    part: &[u8],
+) -> Result<&'o [u8], Refusal> {
+    let count = match url {
+        None => raw::write_item(out, instruction.0, [class, kind], part)?,
+        Some(url) => raw::write_item_url(out, instruction.0, [class, kind], url, part)?,
+    };
+    Ok(&out[..count])
+}

@@ -1,0 +1,215 @@
+//! BaseX responses, read knowing the request from sound and damaged bytes, and written item by item.
+
+use crate::lent::{fill, hex, holds};
+use crate::plain_basex::response::{self as plain, encode_end, encode_item, Parts};
+use crate::plain_basex::{put, NO_ROOM};
+use crate::rng::Rng;
+use crate::tally::Tally;
+use crate::texts::{damage, kind, put_behind, room, text, words};
+use keddorimp::basex::{read_response, End, Item, Kind, Response, ResponseWriter};
+use keddorimp::Refusal;
+
+const READ: usize = 200_000;
+const WRITTEN: usize = 60_000;
+
+pub fn read() -> Tally {
+    let mut rng = Rng::new(4);
+    let mut tally = Tally::new("BaseX responses read");
+    let mut out = Vec::new();
+    for k in 0..READ {
+        let mut asked = kind(&mut rng);
+        let mut bytes = sound(&mut rng, asked);
+        put_behind(&mut rng, &mut bytes);
+        if k % 2 == 1 {
+            damage(&mut rng, &mut bytes);
+        }
+        if rng.one_in(10) {
+            asked = kind(&mut rng);
+        }
+        tally.count(&compare(&mut rng, asked, &bytes, &mut out));
+    }
+    sweep(&mut rng, &mut tally, &mut out);
+    tally.complete(&[1, 2, 8, 10, 13])
+}
+
+/// Everything short for a request of each shape; and for every first byte, every byte where an id or
+/// a status may stand.
+fn sweep(rng: &mut Rng, tally: &mut Tally, out: &mut Vec<u8>) {
+    for kind in [0x00, 0x01, 0x04, 0x08, 0x1F, 0x20] {
+        for bytes in words(&[0x00, 0x01, 0x02, 0x0C, 0x61, 0xFF], 5) {
+            tally.count(&compare(rng, kind, &bytes, out));
+        }
+    }
+    for kind in 0x00..=0xFF {
+        for byte in 0x00..=0xFF {
+            for bytes in [[byte, 0, 0, 0, 0], [0, byte, 0, 0, byte], [0, 0, byte, 0x61, 0]] {
+                tally.count(&compare(rng, kind, &bytes, out));
+            }
+        }
+    }
+}
+
+/// A response to a request of the kind.
+fn sound(rng: &mut Rng, kind: u8) -> Vec<u8> {
+    let call = Call::sound(rng, kind);
+    call.bytes(kind).concat()
+}
+
+fn compare(rng: &mut Rng, kind: u8, bytes: &[u8], out: &mut Vec<u8>) -> Result<usize, u8> {
+    let plain = plain::read(kind, bytes);
+    let stored = plain.as_ref().map_or(vec![], plain::Response::decoded);
+    let room = room(rng, stored.len());
+    let plain = plain.and_then(|read| if stored.len() > room { Err(NO_ROOM) } else { Ok(read) });
+    fill(out, room);
+    let ours = read_response(Kind(kind), bytes, &mut out[..room]).map_err(Refusal::number);
+    let alike = match (&ours, &plain) {
+        (Ok((response, read)), Ok(plain)) => *read == plain.read && same(kind, response, plain),
+        (Err(ours), Err(plain)) => ours == plain,
+        _ => false,
+    };
+    assert!(alike, "to {kind:02X} into {room}: {ours:?}, plain {plain:?}\n{}", hex(bytes));
+    let stored = if plain.is_ok() { &stored[..] } else { &[] };
+    assert!(holds(out, stored), "to {kind:02X} into {room}: {}", hex(bytes));
+    plain.map(|response| response.read)
+}
+
+/// Texts, items, status and error, and where the error is.
+fn same(kind: u8, response: &Response, plain: &plain::Response) -> bool {
+    let End { texts, status, error } = response.end;
+    let (texts, unused) = texts.split_at(plain.texts.len());
+    let items = response.items.clone().map(|Item { id, uri, text }| plain::Item {
+        id,
+        uri: uri.map(<[u8]>::to_vec),
+        text: text.to_vec(),
+    });
+    response.kind == Kind(kind)
+        && texts.iter().eq(plain.texts.iter())
+        && unused.iter().all(|text| text.is_empty())
+        && response.items.len() == plain.items.len()
+        && items.eq(plain.items.iter().map(clone))
+        && status == plain.status
+        && error == plain.error.as_deref().unwrap_or_default()
+        && response.failure() == plain.failure()
+}
+
+fn clone(item: &plain::Item) -> plain::Item {
+    plain::Item { id: item.id, uri: item.uri.clone(), text: item.text.clone() }
+}
+
+pub fn write() -> Tally {
+    let mut rng = Rng::new(5);
+    let mut tally = Tally::new("BaseX responses written");
+    let (mut ours, mut plain) = (Vec::new(), Vec::new());
+    for _ in 0..WRITTEN {
+        let kind = kind(&mut rng);
+        let mut call = Call::sound(&mut rng, kind);
+        if rng.one_in(3) {
+            call.spoil(&mut rng);
+        }
+        let exact = call.bytes(kind).concat().len();
+        let room = room(&mut rng, exact);
+        fill(&mut ours, room);
+        fill(&mut plain, room);
+        // After a refusal either the output is compared, or the writing goes on.
+        let halt = rng.one_in(2);
+        call.write(kind, halt, &mut ours[..room], &mut plain[..room], &mut tally);
+        assert_eq!(ours, plain, "to {kind:02X}: {call:?}");
+    }
+    write_sweep(&mut tally);
+    tally.complete(&[2, 8, 10])
+}
+
+/// For every first byte, every byte as the id of an item, with a URI and without, and as the status.
+fn write_sweep(tally: &mut Tally) {
+    for (kind, byte) in (0x00..=0xFF).flat_map(|kind| (0x00..=0xFF).map(move |byte| (kind, byte))) {
+        let text = b"t".to_vec();
+        let items = vec![(byte, vec![], text.clone()), (byte, b"u".to_vec(), text)];
+        let call = Call { items, texts: Default::default(), status: byte, error: vec![] };
+        let (mut ours, mut plain) = ([0xA5; 24], [0xA5; 24]);
+        call.write(kind, false, &mut ours, &mut plain, tally);
+        assert_eq!(ours, plain, "to {kind:02X}: {call:?}");
+    }
+}
+
+/// What is to be written.
+#[derive(Debug)]
+struct Call {
+    /// Id, URI and text.
+    items: Vec<(u8, Vec<u8>, Vec<u8>)>,
+    texts: [Vec<u8>; 2],
+    status: u8,
+    error: Vec<u8>,
+}
+
+impl Call {
+    /// A response to a request of the kind, as it is published; the end of one for an unknown kind.
+    fn sound(rng: &mut Rng, kind: u8) -> Self {
+        let parts = Parts::of(kind).unwrap_or(Parts::Query);
+        let status = rng.pick(&[0, 0, 1]);
+        let items = match parts {
+            Parts::Items(full) => {
+                (0..rng.pick(&[0, 1, 2, 3, 9])).map(|_| item(rng, full)).collect()
+            }
+            _ => Vec::new(),
+        };
+        let texts = [0, 1].map(|k| if k < parts.texts() { text(rng) } else { vec![] });
+        let error = if parts.has_error(status) { text(rng) } else { vec![] };
+        Self { items, texts, status, error }
+    }
+
+    /// A value that is not allowed, though not every draw is one.
+    fn spoil(&mut self, rng: &mut Rng) {
+        let (place, any) = (rng.below(2), rng.byte());
+        match rng.below(5) {
+            0 => self.status = rng.pick(&[0, 1, 2, 0xFF, any]),
+            1 => self.error = text(rng),
+            2 => self.texts[place] = text(rng),
+            3 => self.items.push((rng.pick(&[7, 12, 82]), text(rng), text(rng))),
+            _ => {
+                let id = rng.pick(&[0, 6, 7, 15, 16, 31, 32, 83, 84, 0xFF, any]);
+                self.items.push((id, vec![], text(rng)));
+            }
+        }
+    }
+
+    /// What each call writes; nothing where it is refused.
+    fn bytes(&self, kind: u8) -> Vec<Vec<u8>> {
+        let items = self.items.iter().map(|(id, uri, text)| encode_item(kind, *id, uri, text));
+        let texts = self.texts.each_ref().map(Vec::as_slice);
+        let end = encode_end(kind, texts, self.status, &self.error);
+        items.chain([end]).map(Result::unwrap_or_default).collect()
+    }
+
+    fn write(&self, kind: u8, halt: bool, ours: &mut [u8], plain: &mut [u8], tally: &mut Tally) {
+        let mut writer = ResponseWriter::new(Kind(kind), ours);
+        let mut at = 0;
+        for (id, uri, text) in &self.items {
+            let bytes = encode_item(kind, *id, uri, text);
+            let expected = bytes.and_then(|bytes| put(plain, at, &bytes));
+            // No URI is an empty one, and the other way round.
+            let uri = Some(uri.as_slice()).filter(|uri| !uri.is_empty() || *id % 2 == 0);
+            let answer = writer.item(&Item { id: *id, uri, text }).map_err(Refusal::number);
+            assert_eq!(answer.map(<[u8]>::len), expected, "to {kind:02X}: {self:?}");
+            tally.count(&expected);
+            at += expected.unwrap_or(0);
+            if halt && expected.is_err() {
+                return;
+            }
+        }
+        let texts = self.texts.each_ref().map(Vec::as_slice);
+        let expected = encode_end(kind, texts, self.status, &self.error)
+            .and_then(|bytes| put(plain, at, &bytes));
+        let end = End { texts, status: self.status, error: &self.error };
+        let answer = writer.end(&end).map_err(Refusal::number);
+        let whole = expected.map(|count| &plain[..at + count]);
+        assert_eq!(answer, whole, "to {kind:02X}: {self:?}");
+        tally.count(&expected);
+    }
+}
+
+fn item(rng: &mut Rng, full: bool) -> (u8, Vec<u8>, Vec<u8>) {
+    let any = rng.between(32, 83) as u8;
+    let id = rng.pick(&[7, 9, 12, 14, 15, 32, 52, 82, 83, any]);
+    let uri = if plain::has_uri(full, id) { text(rng) } else { vec![] };
+    (id, uri, text(rng))
+}

@@ -1,0 +1,139 @@
+//! Each refusal by its number, and that nothing was changed then.
+
+use keddorimp::basex::{
+    read_response, read_string, write_request, End, Kind, Request, ResponseWriter,
+};
+use keddorimp::sedna::{
+    read, write_empty, write_options, write_text, Assembly, Cut, Gathering, Instruction, Session,
+    Side,
+};
+use keddorimp::Refusal;
+
+/// A head of a message, and bytes behind it.
+fn message(instruction: Instruction, length: u32, body: &[u8]) -> Vec<u8> {
+    [&instruction.0.to_be_bytes()[..], &length.to_be_bytes(), body].concat()
+}
+
+/// The number with which a message of the client is refused.
+fn refused(instruction: Instruction, length: u32, body: &[u8]) -> u8 {
+    read(Side::Client, &message(instruction, length, body)).expect_err("accepted").number()
+}
+
+#[test]
+fn numbers_and_meanings() {
+    assert!(Refusal::ALL.iter().map(|refusal| refusal.number()).eq(1..=14));
+    let error: &dyn core::error::Error = &Refusal::NoRoom;
+    let words = "refused with 10: lent output shorter than the bytes to be put there";
+    assert_eq!(error.to_string(), words);
+}
+
+#[test]
+fn r1_more_bytes() {
+    assert_eq!(refused(Instruction::EXECUTE, 7, &[0, 0, 0, 0, 0, 1]), 1);
+    assert_eq!(read_string(b"no end", &mut [0; 9]), Err(Refusal::MoreBytes));
+}
+
+#[test]
+fn r2_unknown() {
+    assert_eq!(refused(Instruction(111), 0, &[]), 2);
+    assert_eq!(write_empty(&mut [0; 8], Instruction(111)), Err(Refusal::UnknownInstruction));
+    let answer = read_response(Kind(0xFF), &[0], &mut []).map(|(_, count)| count);
+    assert_eq!(answer, Err(Refusal::UnknownInstruction));
+}
+
+#[test]
+fn r3_other_side() {
+    assert_eq!(refused(Instruction::CLOSE_OK, 0, &[]), 3);
+}
+
+#[test]
+fn r4_body_too_long() {
+    assert_eq!(refused(Instruction::BULK_LOAD_PORTION, 10_241, &[]), 4);
+}
+
+#[test]
+fn r5_field_cut() {
+    assert_eq!(refused(Instruction::BULK_LOAD_PORTION, 4, &[0, 0, 0, 0]), 5);
+}
+
+#[test]
+fn r6_string_format() {
+    assert_eq!(refused(Instruction::BULK_LOAD_PORTION, 1, &[1]), 6);
+}
+
+#[test]
+fn r7_bytes_left_over() {
+    assert_eq!(refused(Instruction::BULK_LOAD_PORTION, 6, &[0, 0, 0, 0, 0, 9]), 7);
+}
+
+#[test]
+fn r8_value_not_allowed() {
+    assert_eq!(refused(Instruction::EXECUTE, 1, &[2]), 8);
+    let mut out = [0xA5; 64];
+    let text = write_text(&mut out, Instruction::EXECUTE, b"").map(<[u8]>::len);
+    let options = write_options(&mut out, Instruction::SET_OPTIONS, &[1, 2], &[1, 1], b"abc");
+    assert_eq!((text, options.map(<[u8]>::len)), (Err(Refusal::ValueNotAllowed), text));
+    let end = End { texts: [b"", b""], status: 2, error: b"" };
+    let mut writer = ResponseWriter::new(Kind::QUERY, &mut out);
+    assert_eq!(writer.end(&end), Err(Refusal::ValueNotAllowed));
+    assert_eq!(out, [0xA5; 64]);
+}
+
+#[test]
+fn r9_out_of_order() {
+    let begin = message(Instruction::BEGIN, 0, &[]);
+    let mut session = Session::new();
+    assert_eq!(session.step(Side::Client, &begin), Err(Refusal::OutOfOrder));
+    assert_eq!(session, Session::default());
+    assert_eq!(Assembly::new(&mut []).join(Side::Client, &begin), Err(Refusal::OutOfOrder));
+}
+
+#[test]
+fn r10_no_room() {
+    let mut out = [0xA5; 7];
+    assert_eq!(write_empty(&mut out, Instruction::BEGIN), Err(Refusal::NoRoom));
+    let request = Request::new(Kind::QUERY, [b"123456"]);
+    assert_eq!(write_request(&mut out, &request), Err(Refusal::NoRoom));
+    assert_eq!(read_string(b"12345678\0", &mut out), Err(Refusal::NoRoom));
+    assert_eq!(out, [0xA5; 7]);
+}
+
+#[test]
+fn r11_no_encoding() {
+    let mut out = [0xA5; 20_000];
+    let long = write_text(&mut out, Instruction::ITEM_PART, &[0; 10_236]);
+    assert_eq!(long, Err(Refusal::NoEncoding));
+    let command = Request::new(Kind::COMMAND, [b"\x1F"]);
+    assert_eq!(write_request(&mut out, &command), Err(Refusal::NoEncoding));
+    assert!(out.iter().all(|&byte| byte == 0xA5));
+}
+
+#[test]
+fn r12_buffer_overrun() {
+    let mut buffer = [0xA5; 1];
+    let mut assembly = Assembly::new(&mut buffer);
+    assembly.open(Gathering::Statement);
+    let part = message(Instruction::EXECUTE, 8, &[0, 0, 0, 0, 0, 2, b'1', b'2']);
+    assert_eq!(assembly.join(Side::Client, &part), Err(Refusal::BufferOverrun));
+    assert_eq!(buffer, [0xA5]);
+}
+
+#[test]
+fn r13_bad_escape() {
+    assert_eq!(read_string(b"a\xFFb\0", &mut [0; 9]), Err(Refusal::BadEscape));
+}
+
+#[test]
+fn r14_no_such_part() {
+    let cut = Cut::Statement { format: 0, text: b"1" };
+    assert_eq!(cut.write_part(1, &mut []), Err(Refusal::NoSuchPart));
+    assert_eq!(cut.write_part(usize::MAX, &mut []), Err(Refusal::NoSuchPart));
+}
+
+/// The 46 numbers that the plain implementation knows have a name, and no other has.
+#[test]
+fn instructions_have_names() {
+    let named = (0..=1_000).filter(|&number| Instruction(number).name().is_some());
+    assert!(named.eq(bench::inputs::MESSAGES.map(|(number, ..)| number)));
+    assert_eq!(Instruction::LONG_QUERY_END.name(), Some("LongQueryEnd"));
+}
