@@ -21,7 +21,7 @@ use rng::Rng;
 use valid::{body_length, sample};
 
 pub use cuts::{beyond, cuts, lengths, Cut};
-pub use day::day;
+pub use day::{day, endless};
 pub use gatherings::{gatherings, Offered};
 pub use requests::{requests, Request};
 pub use sets::{big_text, full, shuffled, small};

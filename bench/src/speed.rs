@@ -1,12 +1,15 @@
 //! How fast the two are, as ratios that were taken in one run.
 
+mod growth;
 mod parts;
 mod reading;
 mod rounds;
+mod stack;
 mod stepping;
 mod strings;
 mod writing;
 
+use crate::library::{parts::ASSEMBLY, SESSION};
 use bench::inputs::strings::{dense, pieces, xml};
 use bench::inputs::{big_text, day, full, shuffled, small, Input};
 use bench::plain::What;
@@ -35,6 +38,10 @@ pub fn run() {
     cuts();
     println!();
     strings();
+    println!();
+    growth();
+    println!();
+    sizes();
 }
 
 fn row(name: &str, set: &[Input]) {
@@ -61,6 +68,21 @@ fn steps(day: &[Input]) {
     println!("{:<34}{a:<22.1}{b:.1}", "plain");
     let [a, b] = [called.second, inlined.second].map(millions);
     println!("{:<34}{a:<22.1}{b:.1}", "library");
+}
+
+fn growth() {
+    println!("time of a step over that in a session of 1,000 messages:");
+    for (messages, ratio) in growth::ratios() {
+        println!("{:<34}{ratio:.2}", format!("{messages} messages"));
+    }
+}
+
+fn sizes() {
+    println!("bytes that the caller keeps: a session {SESSION}, an assembly {}", 8 * ASSEMBLY);
+    println!("{:<34}bytes of stack", "call");
+    for (name, bytes) in stack::uses() {
+        println!("{name:<34}{bytes}");
+    }
 }
 
 fn cuts() {

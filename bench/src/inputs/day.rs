@@ -21,6 +21,16 @@ pub fn day() -> Vec<Input> {
     day.messages
 }
 
+/// The start of a session in version 4.0, and what may follow it any number of times: a
+/// transaction with an update, committed.
+pub fn endless() -> (Vec<Input>, Vec<Input>) {
+    let mut day = Day { rng: Rng::new(9), messages: Vec::new() };
+    day.start();
+    let start = std::mem::take(&mut day.messages);
+    day.transaction(|day| day.empty(&[UPDATE_SUCCEEDED]));
+    (start, day.messages)
+}
+
 struct Day {
     rng: Rng,
     messages: Vec<Input>,
