@@ -1,14 +1,33 @@
--- Demand 2 holds, as far as messages go.
+-- Demand 2 holds: of messages, of cutting and joining, and of BaseX.
+use mathlib.Core.List.{List, _++_}
+use mathlib.Core.Logic.{_↔_}
+use mathlib.Core.Path.{_≡_, ap, _∙_}
+use Prim.Native.Nat.{ℕ}
+use Rattle.wire.specs.Fields.{Got}
+use Rattle.sedna_read.specs.Places.{located}
 use Rattle.sedna_exact.proofs.Exact.{exact, one-message, one-encoding, behind}
 use Rattle.sedna_exact.proofs.Lists.{options-written, options-given}
 use Rattle.sedna_exact.proofs.Meaning.{meaning-located}
 use Rattle.sedna_exact.proofs.Options.{option-exact}
 use Rattle.sedna_exact.proofs.Table.{once}
 use Rattle.sedna_exact.proofs.Written.{written-exact, read-written, write-read}
-use Rattle.demands.specs.Demand2.{Demand2}
+use Rattle.fragments.proofs.Counts.{statement-counted, statements-counted, item-counted, typed-item-counted}
+use Rattle.assembly.proofs.Cuttings.{joins}
+use Rattle.fragments_exact.proofs.Cuts.{statement-cut-published, statement-cut-request, item-cut-published, item-cut-item, typed-item-cut-published, typed-item-cut-item}
+use Rattle.fragments_exact.proofs.Filled.{statement-filled, item-filled, typed-filled, url-fits, url-counted}
+use Rattle.fragments_exact.proofs.Joins.{statement-rejoined, item-rejoined, typed-item-rejoined}
+use Rattle.fragments_exact.proofs.Parts.{part-read}
+use Rattle.basex_string.specs.Scan.{reading}
+use Rattle.basex_string.specs.Strings.{string}
+use Rattle.basex_string.proofs.Laws as strings
+use Rattle.basex_request.proofs.Laws as requests
+use Rattle.basex_exact.proofs.Laws as responses
+use Rattle.basex_exact.proofs.Responses.{response-exact, one-response}
+use Rattle.basex_exact.proofs.Wrote.{response-written}
+use Rattle.demands.specs.Demand2.{Sedna, Parts, BaseX, Demand2}
 
-pub demand-2 : Demand2
-demand-2 =
+sedna : Sedna
+sedna =
     record {
       reading-exact = exact;
       one-message = one-message;
@@ -16,6 +35,7 @@ demand-2 =
       behind = behind;
       places-hold = meaning-located;
       options-hold = option-exact;
+      options-counted = λ side s i n ps e. ap located e;
       writing-exact = written-exact;
       options-written = options-written;
       options-given = options-given;
@@ -23,3 +43,52 @@ demand-2 =
       write-read = write-read;
       once = once;
     }
+
+parts : Parts
+parts = record {
+  joins = joins;
+  statement-published = statement-cut-published;
+  statement-laid-out = statement-cut-request;
+  statement-counted = statement-counted;
+  statement-edges = statements-counted;
+  statement-filled = statement-filled;
+  statement-rejoined = statement-rejoined;
+  item-published = item-cut-published;
+  item-laid-out = item-cut-item;
+  item-counted = item-counted;
+  item-filled = item-filled;
+  item-rejoined = item-rejoined;
+  typed-published = typed-item-cut-published;
+  typed-laid-out = typed-item-cut-item;
+  typed-counted = typed-item-counted;
+  typed-filled = typed-filled;
+  url-fits = url-fits;
+  url-counted = url-counted;
+  typed-rejoined = typed-item-rejoined;
+  part-read = part-read;
+}
+
+string-exact : (s t rest : List ℕ) → (reading s ≡ Got.got t rest) ↔ (s ≡ string t ++ rest)
+string-exact s t rest = (strings.exact s t rest, λ (e : s ≡ string t ++ rest). ap reading e ∙ strings.read-written t rest)
+
+basex : BaseX
+basex =
+    record {
+      string-exact = string-exact;
+      one-string = λ s t rest more. strings.one-encoding s t rest more;
+      request-exact = requests.reading-exact;
+      one-request = requests.one-encoding;
+      request-behind = requests.behind;
+      request-read-written = requests.read-written;
+      request-write-read = requests.rewritten;
+      response-exact = response-exact;
+      one-response = one-response;
+      response-behind = responses.behind-free;
+      response-written = response-written;
+      response-read-written = responses.read-written;
+      response-write-read = responses.write-read;
+      items-handed = responses.items-all;
+    }
+
+pub demand-2 : Demand2
+demand-2 = record { sedna = sedna; parts = parts; basex = basex }

@@ -18,8 +18,7 @@ use Rattle.session.specs.Machine.{refused, next}
 use Rattle.session.specs.Step.{freshSession, Outcome, outcome, settled, versionAfter, stepped, closedOf}
 use Rattle.session_exact.proofs.Follows.{Follows, fresh-follows, begins, whole-closed, Settled, settles, taken, nine}
 use Rattle.session_exact.proofs.Published.{published-sent, published-exact}
-use Rattle.demands.specs.Claim.{Form, Offer, Done, Right, messages, Judged, answersFrom, left, After}
-use Rattle.demands.specs.Demand3.{step, Demand3}
+use Rattle.demands.specs.Demand3.{Form, Offer, Done, Right, messages, Judged, answersFrom, left, After, step, Demand3}
 
 module _ (o : Offer) where
   abbrev read : Answer

@@ -26,8 +26,7 @@ use Rattle.records.specs.declared.Head.{Head}
 use Rattle.records.specs.declared.Head.the-variants as head
 use Rattle.records.specs.Record.{Record, headOf, recordOf, Front, behind, front, fromFront, recordsUpTo, records}
 use Rattle.records.specs.Transcript.{answers, after, saysClosed, saysOpen, saysDamaged, lastLine, printed}
-use Rattle.demands.specs.Claim.{Form, Offer, Right, messages, Judged, answersFrom, left}
-use Rattle.demands.specs.Demand3.{step}
+use Rattle.demands.specs.Demand3.{Form, Offer, Right, messages, Judged, answersFrom, left, step}
 use Rattle.demands.specs.Transcript.{readAs, RightNumber, messageOf, acceptedOf, AllRight, recordsIn, acceptedIn, Demand3Transcript}
 use Rattle.demands.proofs.Demand3.{messages-cons, demand-3}
 

@@ -1,40 +1,112 @@
 -- Demand 1: "Every input gets a defined answer. Bad bytes, wrong order and short room are refused with the number document 01 lists, at the moment it lists and never otherwise. A refusal leaves the session record and every lent buffer unchanged, but for the spoilt mark 01 gives an overfull item or statement."
 --
--- That every input gets the answer of a definition is what the contracts say: `sedna_read::read` answers `located (reading side bytes)`, each `sedna_write::write_..` answers `written` and leaves `left`, `session::step` returns `stepped`, `session_cell::step_lent` answers `lentAnswer` and leaves `lentLeft`, each `fragments::write_.._part` answers `partWritten` and leaves `partLeft`, and `assembly::join` returns `joined` and leaves `stored`.
-use mathlib.Core.Bool.{Bool}
-use mathlib.Core.List.{List}
+-- That every input gets the answer of a definition is what the contracts say: `sedna_read::read` answers `located (reading side bytes)`, each `sedna_write::write_..` answers `written` and leaves `left`, `session::step` returns
+-- `stepped`, `session_cell::step_lent` answers `lentAnswer` and leaves `lentLeft`, each `fragments::write_.._part` answers `partWritten` and leaves `partLeft`, `assembly::join` returns `joined` and leaves `stored`, and the functions
+-- of BaseX answer and leave what is named in the last record.
+--
+-- Here stands which refusal each of them gives, and when, by the published formats; and what a refused call leaves. When a step gives 9 is demand 3's.
+use mathlib.Core.Bool.{Bool, true, false}
+use mathlib.Core.List.{List, [], _∷_, _++_}
+use mathlib.Core.Logic.{_↔_, _⊎_}
+use mathlib.Core.Option.{some}
 use mathlib.Core.Path.{_≡_}
 use Prim.Native.Nat.{ℕ, _≤_}
-use lib.ListN.{length, getElem?}
+use lib.Dec.{ltb}
+use lib.ListN.{length, drop, getElem?}
+use Rattle.wire.specs.Bytes.{IsBytes, if, placed}
+use Rattle.wire.specs.Fields.{Got}
 use Rattle.wire.specs.declared.Refusal.{Refusal}
+use Rattle.wire.specs.declared.Refusal.the-variants.{MoreBytes, FieldCut, BytesLeftOver, ValueNotAllowed, NoRoom, NoEncoding, NoSuchPart}
 use Rattle.wire.specs.Refusals.{numberOf}
+use Rattle.sedna.specs.declared.Shape.{Shape}
 use Rattle.sedna.specs.declared.Side.{Side}
+use Rattle.sedna.specs.Encode.{encode}
 use Rattle.sedna.specs.Message.{Message}
+use Rattle.sedna.specs.Published.{Published}
 use Rattle.sedna_read.specs.declared.Reading.the-variants as read
-use Rattle.sedna_read.specs.Reading.{Answer, reading}
-use Rattle.sedna_write.specs.declared.Written.the-variants.{Refused}
+use Rattle.sedna_read.specs.Reading.{Answer, bodyField, reading}
+use Rattle.sedna_write.specs.declared.Written.the-variants.{Bytes, Refused}
 use Rattle.sedna_write.specs.Writing.{written, left}
+use Rattle.sedna_exact.specs.Due.{CutShort, LeftOver, Due}
+use Rattle.sedna_exact.specs.Unwritten.{Unwritten}
+use Rattle.session.specs.declared.Session.{Session}
+use Rattle.session.specs.Step.{stepped}
+use Rattle.session_cell.specs.Lent.{lentAnswer, lentLeft}
+use Rattle.fragments.specs.Every.{Every}
 use Rattle.fragments.specs.Part.{partWritten, partLeft}
 use Rattle.assembly.specs.declared.Assembly.{Assembly}
 use Rattle.assembly.specs.Answers.{Reply, reply}
 use Rattle.assembly.specs.Joining.{joined}
 use Rattle.assembly.specs.Refusals.{RefusalLeaves}
-use Rattle.session.specs.declared.Session.{Session}
-use Rattle.session.specs.Step.{stepped}
-use Rattle.session_cell.specs.Lent.{lentAnswer, lentLeft}
+use Rattle.basex_string.specs.declared.Spelled.the-variants as spelled
+use Rattle.basex_string.specs.declared.StringAt.the-variants as string-at
+use Rattle.basex_string.specs.Answers as strings
+use Rattle.basex_string.specs.Answers.{spelling, decoded}
+use Rattle.basex_string.specs.Scan as scan
+use Rattle.basex_string.specs.Strings.{string}
+use Rattle.basex_request.specs.declared.Requested.the-variants as requested-as
+use Rattle.basex_request.specs.Reading as requests
+use Rattle.basex_request.specs.Writing as requesting
+use Rattle.basex_response.specs.declared.Replied.the-variants as replied
+use Rattle.basex_response.specs.Reading as responses
+use Rattle.basex_response.specs.Writing.{itemWritten, endWritten, leftAt}
 
-pub record Demand1 : Type 0 where
-  -- reading, which lends nothing, refuses with 1 to 8 only
-  pub reading-refuses : (side : Side) (s : List ℕ) (r : Refusal) → reading side s ≡ Answer.refused r → (1 ≤ numberOf r) × (numberOf r ≤ 8)
-  -- a refused write leaves every byte of the lent output
-  pub writing-refused : (out : List ℕ) (m : Message) (r : Refusal) → written (length out) m ≡ Refused r → left out m (written (length out) m) ≡ out
+-- one of those numbers
+abbrev pub OneOf : List ℕ → ℕ → Type 0
+OneOf [] n = ⊥
+OneOf (m ∷ ms) n = (n ≡ m) ⊎ OneOf ms n
+
+-- Sedna's messages and the session. The bytes of a slice are bytes: `IsBytes s` is no condition on a caller
+pub record Sedna : Type 0 where
+  -- "at the moment it lists and never otherwise": reading refuses with r exactly when `Due` says so ..
+  pub reading-refused : (side : Side) (s : List ℕ) (r : Refusal) → (reading side s ≡ Answer.refused r) ↔ Due side s r
+  -- .. in a body with 5 exactly where it ends inside a field, with 7 exactly where bytes are left over, and else with 6 or 8 ..
+  pub body-cut : (of : Shape) (b : List ℕ) → IsBytes b → (bodyField of b ≡ Got.refused FieldCut) ↔ CutShort of b
+  pub body-left-over : (of : Shape) (b : List ℕ) → IsBytes b → (bodyField of b ≡ Got.refused BytesLeftOver) ↔ LeftOver of b
+  pub body-refused : (of : Shape) (b : List ℕ) (r : Refusal) → bodyField of b ≡ Got.refused r → OneOf (5 ∷ 6 ∷ 7 ∷ 8 ∷ []) (numberOf r)
+  -- .. "as soon as the byte is there": a refusal other than 1 stands, whatever bytes follow
+  pub refusal-stands : (side : Side) (s t : List ℕ) (r : Refusal) → ¬ (r ≡ MoreBytes) → reading side s ≡ Answer.refused r → reading side (s ++ t) ≡ Answer.refused r
+  -- writing refuses with r exactly when `Unwritten` says so, and then leaves every byte of the lent output
+  pub writing-refused : (room : ℕ) (m : Message) (r : Refusal) → (written room m ≡ Refused r) ↔ Unwritten room m r
+  pub writing-leaves : (out : List ℕ) (m : Message) (r : Refusal) → written (length out) m ≡ Refused r → left out m (written (length out) m) ≡ out
   -- a refused step, of either form, leaves the session record as it was, and refuses with 1 to 9 only
   pub step-refused : (s : Session) (side : Side) (bytes : List ℕ) (r : Refusal) → stepped s side bytes .answer ≡ read.Refused r
       → (stepped s side bytes .session ≡ s) × (1 ≤ numberOf r) × (numberOf r ≤ 9)
   pub lent-refused : (s : Session) (side : Side) (bytes : List ℕ) (r : Refusal) → lentAnswer s side bytes ≡ read.Refused r
       → (lentLeft s side bytes ≡ s) × (1 ≤ numberOf r) × (numberOf r ≤ 9)
+
+-- cutting and joining
+pub record Parts : Type 0 where
+  -- "When writing or cutting: 2, 8, 11, 14, 10": 8 and 11 for the whole, whatever the part; 14 beyond the last; else the part is written, or 10
+  pub part-value : (encodable : Bool) (cut : List Message) (k room : ℕ) → partWritten false encodable cut k room ≡ Refused ValueNotAllowed
+  pub part-encoding : (cut : List Message) (k room : ℕ) → partWritten true false cut k room ≡ Refused NoEncoding
+  pub part-beyond : (cut : List Message) (k room : ℕ) → length cut ≤ k → partWritten true true cut k room ≡ Refused NoSuchPart
+  pub part-there : (side : Side) (cut : List Message) → Every (Published side) cut → (k room : ℕ) (m : Message) → getElem? cut k ≡ some m
+      → partWritten true true cut k room ≡ if (ltb room (length (encode m))) (Refused NoRoom) (Bytes (length (encode m)))
   -- a refused part of a cut leaves every byte of the lent output
-  pub part-refused : (out : List ℕ) (allowed encodable : Bool) (cut : List Message) (k : ℕ) (r : Refusal) → partWritten allowed encodable cut k (length out) ≡ Refused r
+  pub part-leaves : (out : List ℕ) (allowed encodable : Bool) (cut : List Message) (k : ℕ) (r : Refusal) → partWritten allowed encodable cut k (length out) ≡ Refused r
       → partLeft out (getElem? cut k) (partWritten allowed encodable cut k (length out)) ≡ out
   -- a refused part or end of a gathering: 8, 9 or 12; the buffer stays, and the record but for the mark
   pub join-refused : (a : Assembly) (d : List ℕ) (m : Message) (n : ℕ) → reply (joined a (length d) m .answer) ≡ Reply.number n → RefusalLeaves a d m n
+
+-- BaseX: the refusals that each call gives, and that a refused one leaves every lent byte
+pub record BaseX : Type 0 where
+  pub string-refused : (b : List ℕ) (at : ℕ) (out : List ℕ) (to : ℕ) (r : Refusal) → decoded (length b) (length out) to (scan.reading (drop at b)) ≡ string-at.Refused r
+      → OneOf (1 ∷ 10 ∷ 13 ∷ []) (numberOf r) × (strings.left out to (scan.reading (drop at b)) ≡ out)
+  pub string-unwritten : (out : List ℕ) (at : ℕ) (text : List ℕ) (r : Refusal) → spelling (length out) at text ≡ spelled.Refused r
+      → OneOf (10 ∷ []) (numberOf r) × (placed out at (string text) ≡ out)
+  pub request-refused : (s out : List ℕ) (r : Refusal) → requests.requested (length s) (length out) (requests.reading s) ≡ requested-as.Refused r
+      → OneOf (1 ∷ 2 ∷ 10 ∷ 13 ∷ []) (numberOf r) × (requests.left out (requests.reading s) ≡ out)
+  pub request-unwritten : (out : List ℕ) (kind : ℕ) (texts : List (List ℕ)) (r : Refusal) → requesting.written (length out) kind texts ≡ spelled.Refused r
+      → OneOf (2 ∷ 8 ∷ 10 ∷ 11 ∷ []) (numberOf r) × (requesting.left out kind texts (requesting.written (length out) kind texts) ≡ out)
+  pub response-refused : (kind : ℕ) (s out : List ℕ) (r : Refusal) → responses.answered (length s) (length out) (responses.reading kind s) ≡ replied.Refused r
+      → OneOf (1 ∷ 2 ∷ 8 ∷ 10 ∷ 13 ∷ []) (numberOf r) × (responses.left out (responses.reading kind s) ≡ out)
+  pub item-unwritten : (out : List ℕ) (at kind id : ℕ) (uri text bytes : List ℕ) (r : Refusal) → itemWritten (length out) at kind id uri text ≡ spelled.Refused r
+      → OneOf (2 ∷ 8 ∷ 10 ∷ []) (numberOf r) × (leftAt out at bytes (itemWritten (length out) at kind id uri text) ≡ out)
+  pub end-unwritten : (out : List ℕ) (at kind : ℕ) (first second : List ℕ) (status : ℕ) (error bytes : List ℕ) (r : Refusal) → endWritten (length out) at kind first second status error ≡ spelled.Refused r
+      → OneOf (2 ∷ 8 ∷ 10 ∷ []) (numberOf r) × (leftAt out at bytes (endWritten (length out) at kind first second status error) ≡ out)
+
+pub record Demand1 : Type 0 where
+  pub sedna : Sedna
+  pub parts : Parts
+  pub basex : BaseX

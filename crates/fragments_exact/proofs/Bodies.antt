@@ -19,7 +19,7 @@ use Rattle.sedna_exact.proofs.Table.{listed-find}
 use Rattle.fragments.specs.Cut.{statementRoom, partRoom, startRoom}
 use Rattle.fragments_exact.specs.Rejoined.{UrlFits}
 
-string-length : (s : List ℕ) → length (string s) ≡ 5 + length s
+pub string-length : (s : List ℕ) → length (string s) ≡ 5 + length s
 unfolding string int
 string-length s = omega (arith, length-append (int (length s)) s)
 

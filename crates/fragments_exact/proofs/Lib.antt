@@ -1,3 +1,5 @@
 pub mod Bodies
 pub mod Cuts
+pub mod Filled
 pub mod Joins
+pub mod Parts

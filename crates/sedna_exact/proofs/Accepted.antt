@@ -15,10 +15,11 @@ use Rattle.sedna.specs.Encode.{bodyBytes, encode}
 use Rattle.sedna.specs.Published.{Published, Front}
 use Rattle.wire.specs.Fields.{Got}
 use Rattle.sedna_read.specs.Reading.{Heading, Answer, bodyField, heading, answered, afterHead, reading}
+use Rattle.sedna_exact.specs.Due.{Head}
 use Rattle.sedna_exact.proofs.Branches.{apart, either}
 use Rattle.sedna_exact.proofs.Bytes.{bytes-front, bytes-behind, bytes-part, int-small, int-written}
 use Rattle.sedna_exact.proofs.Bodies.{Read, body-forth, body-back}
-use Rattle.sedna_exact.proofs.Heads.{Head, head-forth, head-back, head-bytes}
+use Rattle.sedna_exact.proofs.Heads.{head-forth, head-back, head-bytes}
 
 module _ (side : Side) (m : Message) (rest : List ℕ) (h : IsBytes (encode m ++ rest)) (p : Published side m) where
   encoded-instruction : intAt (encode m ++ rest) 0 ≡ m .instruction

@@ -1,6 +1,6 @@
 -- Each body is read off its bytes, and whatever is read as a body is its bytes.
 use mathlib.Core.Path.{_≡_, refl, sym, _∙_}
-use mathlib.Core.List.{List, [], _∷_, _++_, append-assoc}
+use mathlib.Core.List.{List, [], _∷_, _++_, append-assoc, append-nil}
 use mathlib.Core.Bool.{true}
 use Prim.Native.Nat.{ℕ}
 use lib.ListN.{length}
@@ -15,25 +15,50 @@ use Rattle.sedna_read.specs.Fields.{byteField, intField, stringField, nothingLe
 use Rattle.sedna_read.specs.Reading.{sessionFields, textFields, statementFields, codedFields, pairsField, optionsFields, itemFields, fieldsOf, bodyField}
 use Rattle.sedna_exact.proofs.Branches.{apart, both}
 use Rattle.sedna_exact.proofs.Bytes.{bytes-behind}
-use Rattle.sedna_exact.proofs.Steps.{whole, past, passed, given}
+use Rattle.sedna_exact.proofs.Steps.{past, passed, given}
 use Rattle.sedna_exact.proofs.Fields.{byte-back, int-forth, int-back, string-forth, string-back}
 use Rattle.sedna_exact.proofs.Pairs.{pairs-count, pairs-forth, pairs-back}
 use Rattle.sedna_exact.proofs.Urls.{flaggedUrl, flagged, url-forth, url-back}
 
-fields-forth : (b : Body) → allowed b ≡ true → IsBytes (bodyBytes b) → fieldsOf (shapeOf b) (bodyBytes b) ≡ Got.got b []
+-- options go up to the body's end, so nothing can stand behind them; any other body ends by itself
+abbrev pub Ends : Body → List ℕ → Type 0
+Ends Body.empty rest = Unit {0}
+Ends (Body.session major minor user database) rest = Unit {0}
+Ends (Body.text t) rest = Unit {0}
+Ends (Body.statement format t) rest = Unit {0}
+Ends (Body.coded code t) rest = Unit {0}
+Ends (Body.options pairs) rest = rest ≡ []
+Ends (Body.item class kind url part) rest = Unit {0}
+
+pub fields-forth : (b : Body) (rest : List ℕ) → Ends b rest → allowed b ≡ true → IsBytes (bodyBytes b ++ rest) → fieldsOf (shapeOf b) (bodyBytes b ++ rest) ≡ Got.got b rest
 unfolding allowed bodyBytes sessionFields textFields statementFields codedFields optionsFields itemFields
-fields-forth Body.empty ok h = refl
-fields-forth (Body.session major minor user database) ok h =
-    let h′ : IsBytes (string user ++ string database) = bytes-behind (major ∷ minor ∷ []) (string user ++ string database) h in
-    rw (ok, string-forth user (string database) h′, whole stringField string string-forth database (bytes-behind (string user) (string database) h′))
-fields-forth (Body.text t) ok h = rw (whole stringField string string-forth t h)
-fields-forth (Body.statement format t) ok h = rw (ok, whole stringField string string-forth t (bytes-behind (format ∷ []) (string t) h))
-fields-forth (Body.coded code t) ok h = rw (int-forth code (string t) h, whole stringField string string-forth t (bytes-behind (int code) (string t) h))
-fields-forth (Body.options pairs) ok h = rw (pairs-forth pairs (length (pairsBytes pairs)) (pairs-count pairs) h)
-fields-forth (Body.item class kind url part) ok h =
+fields-forth Body.empty rest z ok h = refl
+fields-forth (Body.session major minor user database) rest z ok h =
+    let h′ : IsBytes (string user ++ (string database ++ rest)) = rw append-assoc at (bytes-behind (major ∷ minor ∷ []) (string user ++ string database ++ rest) h) in
+    rw (append-assoc, ok, string-forth user (string database ++ rest) h′, string-forth database rest (bytes-behind (string user) (string database ++ rest) h′))
+fields-forth (Body.text t) rest z ok h = rw (string-forth t rest h)
+fields-forth (Body.statement format t) rest z ok h = rw (ok, string-forth t rest (bytes-behind (format ∷ []) (string t ++ rest) h))
+fields-forth (Body.coded code t) rest z ok h =
+    let h′ : IsBytes (int code ++ (string t ++ rest)) = rw append-assoc at h in
+    rw (append-assoc, int-forth code (string t ++ rest) h′, string-forth t rest (bytes-behind (int code) (string t ++ rest) h′))
+fields-forth (Body.options pairs) rest z ok h =
+    let h′ : IsBytes (pairsBytes pairs) = rw (z, append-nil (pairsBytes pairs)) at h in
+    rw (z, append-nil (pairsBytes pairs), pairs-forth pairs (length (pairsBytes pairs)) (pairs-count pairs) h′)
+fields-forth (Body.item class kind url part) rest z ok h =
     let oks = both (classAllowed class) (typeAllowed kind) .0 ok in
-    let h′ : IsBytes (urlBytes url ++ string part) = bytes-behind (class ∷ kind ∷ []) (urlBytes url ++ string part) h in
-    rw (oks .0, oks .1) (flagged (urlBytes url ++ string part) _ ∙ rw (url-forth url (string part) h′, whole stringField string string-forth part (bytes-behind (urlBytes url) (string part) h′)))
+    let h′ : IsBytes (urlBytes url ++ (string part ++ rest)) = rw append-assoc at (bytes-behind (class ∷ kind ∷ []) (urlBytes url ++ string part ++ rest) h) in
+    rw (append-assoc, oks .0, oks .1)
+    (flagged (urlBytes url ++ (string part ++ rest)) _
+    ∙ rw (url-forth url (string part ++ rest) h′, string-forth part rest (bytes-behind (urlBytes url) (string part ++ rest) h′)))
+
+ends-nothing : (b : Body) → Ends b []
+ends-nothing Body.empty = tt
+ends-nothing (Body.session major minor user database) = tt
+ends-nothing (Body.text t) = tt
+ends-nothing (Body.statement format t) = tt
+ends-nothing (Body.coded code t) = tt
+ends-nothing (Body.options pairs) = refl
+ends-nothing (Body.item class kind url part) = tt
 
 -- b was read off s as a body of that shape, and rest is left
 pub record Read (of : Shape) (s : List ℕ) (b : Body) (rest : List ℕ) : Type 0 where
@@ -41,7 +66,7 @@ pub record Read (of : Shape) (s : List ℕ) (b : Body) (rest : List ℕ) : Type 
   pub shape : shapeOf b ≡ of
   pub values : allowed b ≡ true
 
-fields-back : (of : Shape) (s : List ℕ) (b : Body) (rest : List ℕ) → IsBytes s → fieldsOf of s ≡ Got.got b rest → Read of s b rest
+pub fields-back : (of : Shape) (s : List ℕ) (b : Body) (rest : List ℕ) → IsBytes s → fieldsOf of s ≡ Got.got b rest → Read of s b rest
 unfolding allowed bodyBytes sessionFields textFields statementFields codedFields optionsFields itemFields
 fields-back shape.Empty s b rest h e = given (Read shape.Empty s) e (record { split = refl; shape = refl; values = refl })
 fields-back shape.Session s b rest h e =
@@ -78,7 +103,10 @@ fields-back shape.Item s b rest h e =
 -- a body's bytes are read as the body, and nothing is left
 pub body-forth : (b : Body) → allowed b ≡ true → IsBytes (bodyBytes b) → bodyField (shapeOf b) (bodyBytes b) ≡ Got.got b []
 unfolding bodyField
-body-forth b ok h = rw (fields-forth b ok h)
+body-forth b ok h = rw (whole-body)
+  where
+    whole-body : fieldsOf (shapeOf b) (bodyBytes b) ≡ Got.got b []
+    whole-body = rw (append-nil (bodyBytes b)) at (fields-forth b [] (ends-nothing b) ok (rw (append-nil (bodyBytes b)) h))
 
 -- whatever is read as a body is its bytes, all of them
 pub body-back : (of : Shape) (s : List ℕ) (b : Body) (rest : List ℕ) → IsBytes s → bodyField of s ≡ Got.got b rest → Read of s b []

@@ -16,26 +16,20 @@ use Rattle.sedna.specs.declared.Found.the-variants.{Known, Unknown}
 use Rattle.sedna.specs.Kinds.{sameSide}
 use Rattle.sedna.specs.Table.{InTable, findOf}
 use Rattle.sedna_read.specs.Reading.{Heading, headOf, heading}
+use Rattle.sedna_exact.specs.Due.{Head}
 use Rattle.sedna_exact.proofs.Branches.{apart, either}
 use Rattle.sedna_exact.proofs.Bytes.{int-read}
 use Rattle.sedna_exact.proofs.Table.{find-listed, listed-find}
 
-same-back : (a b : Side) → sameSide a b ≡ true → a ≡ b
+pub same-back : (a b : Side) → sameSide a b ≡ true → a ≡ b
 same-back Client Client e = refl
 same-back Client Server e = apart (cc)
 same-back Server Client e = apart (cc)
 same-back Server Server e = refl
 
-same-forth : (a : Side) → sameSide a a ≡ true
+pub same-forth : (a : Side) → sameSide a a ≡ true
 same-forth Client = refl
 same-forth Server = refl
-
--- s begins with a head that the side sends: an instruction with a body of that shape, of n bytes
-pub record Head (side : Side) (s : List ℕ) (of : Shape) (n : ℕ) : Type 0 where
-  pub long : 8 ≤ length s
-  pub listed : InTable (intAt s 0, side, of)
-  pub size : n ≡ intAt s 4
-  pub short : n ≤ 10240
 
 pub head-forth : (side : Side) (s : List ℕ) (of : Shape) (n : ℕ) → Head side s of n → heading side s ≡ Heading.headed of n
 unfolding heading

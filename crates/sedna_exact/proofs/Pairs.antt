@@ -20,7 +20,7 @@ pair-forth p rest h =
     let h′ : IsBytes (int (p .id) ++ (string (p .value) ++ rest)) = rw append-assoc at h in
     rw (append-assoc, int-forth (p .id) (string (p .value) ++ rest) h′, string-forth (p .value) rest (bytes-behind (int (p .id)) (string (p .value) ++ rest) h′))
 
-pair-back : Back pairField pairBytes
+pub pair-back : Back pairField pairBytes
 unfolding pairField pairBytes
 pair-back s p rest h e =
     past intField int int-back s _ h e λ id s₁ p₁ h₁ e₁.

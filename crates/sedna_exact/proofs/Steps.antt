@@ -1,6 +1,6 @@
 -- A field is exact: it reads the bytes of each value as that value, and whatever it reads is the value's bytes.
 use mathlib.Core.Path.{_≡_, refl, subst₂}
-use mathlib.Core.List.{List, [], _++_, append-nil}
+use mathlib.Core.List.{List, _++_}
 use mathlib.Core.Bool.{Bool, true, false}
 use Prim.Native.Nat.{ℕ}
 use Rattle.wire.specs.declared.Refusal.{Refusal}
@@ -18,10 +18,6 @@ abbrev pub Back : {A : Type 0} → Field A → (A → List ℕ) → Type 0
 Back {A} field bytes = (s : List ℕ) (a : A) (rest : List ℕ) → IsBytes s → field s ≡ Got.got a rest → s ≡ bytes a ++ rest
 
 module _ {A : Type 0} (field : Field A) (bytes : A → List ℕ) where
-  -- nothing stands behind
-  pub whole : Forth field bytes → (a : A) → IsBytes (bytes a) → field (bytes a) ≡ Got.got a []
-  whole forth a h = rw (append-nil (bytes a)) at (forth a [] (rw (append-nil (bytes a)) h))
-
   -- where a reading goes on after a field: P follows if it follows from the field's value and what is left
   pub past : {B P : Type 0} → Back field bytes → (s : List ℕ) (next : A → Field B) {b : B} {rest : List ℕ} → IsBytes s → goOn (field s) next ≡ Got.got b rest
       → ((a : A) (left : List ℕ) → s ≡ bytes a ++ left → IsBytes left → next a left ≡ Got.got b rest → P) → P

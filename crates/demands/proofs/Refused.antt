@@ -1,4 +1,4 @@
--- Demand 1 holds of BaseX.
+-- Demand 1 of BaseX: which numbers each call refuses with, and that it then leaves every lent byte.
 use mathlib.Core.Bool.{Bool, true, false}
 use mathlib.Core.List.{List, [], _∷_, flatten}
 use mathlib.Core.Logic.{_⊎_, inl, inr}
@@ -36,7 +36,7 @@ use Rattle.basex_response.specs.Writing.{inRoom, itemOf, itemWrittenAs, itemWri
 use Rattle.basex_exact.proofs.Laws.{refused-left}
 use Rattle.basex_exact.proofs.Listed.{OfFields}
 use Rattle.basex_exact.proofs.Refusals.{reading-refuses}
-use Rattle.demands.specs.Demand1BaseX.{OneOf, Demand1BaseX}
+use Rattle.demands.specs.Demand1.{OneOf, BaseX}
 
 number : {r q : Refusal} → r ≡ q → numberOf r ≡ numberOf q
 number e = ap numberOf e
@@ -140,8 +140,8 @@ end-unwritten : (out : List ℕ) (at kind : ℕ) (first second : List ℕ) (stat
 unfolding endWritten
 end-unwritten out at kind first second status error bytes r e = refused-so out at bytes (endWritten (length out) at kind first second status error) r (end-refuses (length out) at (findOf kind) first second status error) e
 
-pub demand-1-basex : Demand1BaseX
-demand-1-basex =
+pub basex : BaseX
+basex =
     record {
       string-refused = string-refused;
       string-unwritten = string-unwritten;

@@ -1,0 +1,101 @@
+-- A body is refused with 7 exactly where a whole one stands in front of more bytes.
+use mathlib.Core.List.{List, [], _∷_, _++_}
+use mathlib.Core.Logic.{_↔_}
+use mathlib.Core.Path.{_≡_, refl, sym, ap, subst, _∙_}
+use Prim.Native.Nat.{ℕ, zero, suc, _≤_, _<_}
+use native.Mathlib.Omega.{arith}
+use lib.ListN.{length, length-append}
+use Rattle.wire.specs.Bytes.{IsBytes, int}
+use Rattle.wire.specs.Fields.{Got, goOn, _>>_, give}
+use Rattle.wire.specs.declared.Refusal.{Refusal}
+use Rattle.wire.specs.declared.Refusal.the-variants.{FieldCut, StringFormat, BytesLeftOver, ValueNotAllowed}
+use Rattle.wire.specs.Refusals.{numberOf}
+use Rattle.sedna.specs.declared.Shape.{Shape}
+use Rattle.sedna.specs.declared.Shape.the-variants as shape
+use Rattle.sedna.specs.Encode.{string, pairBytes, bodyBytes}
+use Rattle.sedna.specs.Message.{Pair, Body, shapeOf}
+use Rattle.sedna_read.specs.Fields.{nothingLeft}
+use Rattle.sedna_read.specs.Reading.{pairField, pairsField, optionsFields, fieldsOf, bodyField}
+use Rattle.sedna_exact.specs.Due.{LeftOver}
+use Rattle.sedna_exact.proofs.Bodies.{Ends, fields-forth, fields-back}
+use Rattle.sedna_exact.proofs.Branches.{apart}
+use Rattle.sedna_exact.proofs.Pairs.{pair-back}
+use Rattle.sedna_exact.proofs.Refusals.{GotIn, fields-refuse}
+use Rattle.sedna_exact.proofs.Steps.{past, given}
+
+-- no field is refused with 7
+not-seven : (of : Shape) (s : List ℕ) → ¬ (fieldsOf of s ≡ Got.refused BytesLeftOver)
+not-seven of s e =
+    let p : ¬ (numberOf BytesLeftOver ≡ 7) = subst (GotIn (λ (r : Refusal). ¬ (numberOf r ≡ 7))) e (fields-refuse (λ (r : Refusal). ¬ (numberOf r ≡ 7)) (λ z. omega arith) (λ z. omega arith) (λ z. omega arith) of s) in
+    p refl
+
+-- pairs are read up to the end
+onward : (first : Pair) (g : Got (List Pair)) (ps : List Pair) (rest : List ℕ) → ((more : List Pair) (l : List ℕ) → g ≡ Got.got more l → l ≡ []) → goOn g (λ qs. give (first ∷ qs)) ≡ Got.got ps rest → rest ≡ []
+onward first (Got.refused r) ps rest f e = apart (cc)
+onward first (Got.got more l) ps rest f e = let z : l ≡ rest = cc in sym z ∙ f more l refl
+
+pairs-all : (n : ℕ) (s : List ℕ) (ps : List Pair) (rest : List ℕ) → IsBytes s → length s ≤ n → pairsField n s ≡ Got.got ps rest → rest ≡ []
+unfolding pairsField pairBytes int
+pairs-all zero [] ps rest h l e = given (λ (ps : List Pair) (r : List ℕ). r ≡ []) e refl
+pairs-all zero (x ∷ s) ps rest h l e = absurd (omega arith)
+pairs-all (suc n) [] ps rest h l e = given (λ (ps : List Pair) (r : List ℕ). r ≡ []) e refl
+pairs-all (suc n) (x ∷ s) ps rest h l e =
+    past pairField pairBytes pair-back (x ∷ s) _ h e λ first s₁ p₁ h₁ e₁.
+    let less : length s₁ ≤ n = omega (arith, ap length p₁, length-append (string (first .value)) s₁) in
+    onward first (pairsField n s₁) ps rest (λ more k q. pairs-all n s₁ more k h₁ less q) e₁
+
+options-all : (s : List ℕ) (b : Body) (rest : List ℕ) → IsBytes s → fieldsOf shape.Options s ≡ Got.got b rest → rest ≡ []
+unfolding optionsFields
+options-all s b rest h e = by (pairsField (length s) s) refl e
+  where
+    by : (g : Got (List Pair)) → pairsField (length s) s ≡ g → goOn g (λ ps. give (Body.options ps)) ≡ Got.got b rest → rest ≡ []
+    by (Got.refused r) q e = apart (cc)
+    by (Got.got ps l) q e = let z : l ≡ rest = cc in sym z ∙ pairs-all (length s) s ps l h (omega arith) q
+
+module _ (of : Shape) (s : List ℕ) (h : IsBytes s) where
+  left-back : bodyField of s ≡ Got.refused BytesLeftOver → LeftOver of s
+  unfolding bodyField
+  left-back e = by (fieldsOf of s) refl e
+    where
+      by : (g : Got Body) → fieldsOf of s ≡ g → goOn g (λ b. _>>_ nothingLeft (give b)) ≡ Got.refused BytesLeftOver → LeftOver of s
+      by (Got.refused r) q e = let z : r ≡ BytesLeftOver = cc in absurd (not-seven of s (q ∙ ap Got.refused z))
+      by (Got.got b []) q e = apart (cc)
+      by (Got.got b (x ∷ l)) q e =
+          let r = fields-back of s b (x ∷ l) h q in
+          record {
+            front = bodyBytes b;
+            more = x ∷ l;
+            split = r .split;
+            whole = record { body = b; shape = r .shape; values = r .values; bytes = refl };
+            some = omega arith;
+            ends = λ z. absurd (omega (arith, ap length (options-all s b (x ∷ l) h (rw z at q))));
+          }
+
+  left-forth : LeftOver of s → bodyField of s ≡ Got.refused BytesLeftOver
+  unfolding bodyField
+  left-forth v = by (v .more) refl
+    where
+      ended : (b : Body) (rest : List ℕ) → shapeOf b ≡ of → Ends b rest
+      ended Body.empty rest z = tt
+      ended (Body.session major minor user database) rest z = tt
+      ended (Body.text t) rest z = tt
+      ended (Body.statement format t) rest z = tt
+      ended (Body.coded code t) rest z = tt
+      ended (Body.options pairs) rest z = absurd (v .ends (sym z))
+      ended (Body.item class kind url part) rest z = tt
+
+      b : Body
+      b = v .whole .body
+
+      got : (rest : List ℕ) → v .more ≡ rest → fieldsOf of s ≡ Got.got b rest
+      got rest m =
+          let split : s ≡ bodyBytes b ++ rest = v .split ∙ ap (λ (l : List ℕ). v .front ++ l) m ∙ ap (λ (l : List ℕ). l ++ rest) (v .whole .bytes) in
+          ap (fieldsOf of) split ∙ ap (λ (o : Shape). fieldsOf o (bodyBytes b ++ rest)) (sym (v .whole .shape)) ∙ fields-forth b rest (ended b rest (v .whole .shape)) (v .whole .values) (rw split at h)
+
+      by : (rest : List ℕ) → v .more ≡ rest → goOn (fieldsOf of s) (λ b. _>>_ nothingLeft (give b)) ≡ Got.refused BytesLeftOver
+      by [] m = absurd (omega (arith, v .some, ap length m))
+      by (x ∷ l) m = rw (got (x ∷ l) m)
+
+-- demand 1, reading: 7 exactly where bytes are left over
+pub left-over-exact : (of : Shape) (s : List ℕ) → IsBytes s → (bodyField of s ≡ Got.refused BytesLeftOver) ↔ LeftOver of s
+left-over-exact of s h = (left-back of s h, left-forth of s h)
