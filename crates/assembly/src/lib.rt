@@ -8,6 +8,7 @@ ghost use lib.ListN.{length, take};
 ghost use Rattle.wire.specs.Bytes.{if};
 ghost use Rattle.sedna_read.specs.Meaning.{bodyIn};
 ghost use Rattle.assembly.specs.declared.Open.the-variants as gathering;
+ghost use Rattle.assembly.specs.Answers.{reply, bytesHanded};
 ghost use Rattle.assembly.specs.Roles.{textOf};
 ghost use Rattle.assembly.specs.Joining.{opened, closed, refused, marked, grown, wholeOf, accepted, fitted, judged, joined, isAccepted, stored};
 use body::allowed_in;
@@ -292,24 +293,27 @@ pub fn join(
     j
 }
 
-// The front part of the buffer, where a finished statement or item stands, without a copy; all of
-// the buffer where it is shorter.
-pub fn handed<'a>(buffer: &'a mut [u8], len: usize) -> &'a mut [u8]
-    ensures { λ r. ⌜ now r ≡ take len (now (buffer .entry)) ⌝ }
+// How many bytes an answer hands over: none, but for what is finished.
+fn bytes_handed(answer: Answer) -> usize
+    ensures { λ r. ⌜ r ≡ bytesHanded (reply answer) ⌝ }
 {
-    if len <= buffer.len() {
-        &mut buffer[..len]
-    } else {
-        buffer
+    match answer {
+        Answer::Part => 0,
+        Answer::Statement { len, .. } => len,
+        Answer::Item { len } => len,
+        Answer::TypedItem { len, .. } => len,
+        Answer::Refused(_) => 0,
     }
 }
 
-// The same of a buffer that is only read.
-pub fn handed_shared<'a>(buffer: &'a [u8], len: usize) -> &'a [u8]
-    ensures { λ r. ⌜ now r ≡ take len (now (buffer .entry)) ⌝ }
+// What an answer hands over: the front part of the buffer, where it stands, with no copy. All of the
+// buffer where it is shorter, as no buffer is that the answer was given for.
+pub fn handed<'a>(buffer: &'a mut [u8], answer: Answer) -> &'a mut [u8]
+    ensures { λ r. ⌜ (now r ≡ take (bytesHanded (reply answer)) (now (buffer .entry))) × (r .ptr ≡ buffer .entry .ptr) ⌝ }
 {
+    let len = bytes_handed(answer);
     if len <= buffer.len() {
-        &buffer[..len]
+        &mut buffer[..len]
     } else {
         buffer
     }

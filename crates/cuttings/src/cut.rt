@@ -1,6 +1,7 @@
 // A text cut, written, read back and joined.
 use crate::join::opened;
 use crate::text::MOST;
+use crate::text::first;
 use crate::text::number;
 use crate::text::refused;
 use crate::text::say_answer;
@@ -9,7 +10,6 @@ use crate::text::say_value;
 use crate::text::value;
 use assembly::Assembly;
 use assembly::Open;
-use assembly::handed_shared;
 use fragments::Parts;
 use lines::cut::behind;
 use lines::cut::front;
@@ -39,7 +39,7 @@ fn count(cut: Cut, n: usize) -> Parts {
 
 fn write_with_url(out: &mut [u8], class: u8, kind: u8, n: usize, text: &[u8], k: usize) -> Written {
     let urls = [b'u'; MOST];
-    fragments::write_typed_item_url_part(out, class, kind, handed_shared(&urls, n), text, k)
+    fragments::write_typed_item_url_part(out, class, kind, first(&urls, n), text, k)
 }
 
 // Writes part k.
@@ -77,7 +77,7 @@ fn part(a: Assembly, buffer: &mut [u8], cut: Cut, text: &[u8], k: usize) -> Asse
     say(b";");
     match write(&mut out, cut, text, k) {
         Written::Refused(r) => refused(a, r),
-        Written::Bytes(n) => joined(a, buffer, handed_shared(&out, n), text),
+        Written::Bytes(n) => joined(a, buffer, first(&out, n), text),
     }
 }
 
@@ -105,7 +105,7 @@ fn cutting(open: Assembly, cut: Cut, pattern: &[u8], words: &[u8]) {
     if MOST < length || MOST < room {
         return say(b" ?");
     }
-    let text = handed_shared(pattern, length);
+    let text = first(pattern, length);
     say(b": parts");
     let mut n = 0;
     match count(cut, length) {

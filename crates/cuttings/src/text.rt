@@ -1,10 +1,10 @@
 // Numbers that words spell, and printing what is answered.
 use assembly::Answer;
 use assembly::Assembly;
-use assembly::handed_shared;
 use lines::cut::same;
 use lines::print::decimal;
 use lines::print::say;
+use wire::Place;
 use wire::Refusal;
 
 // The greatest length and room, and the greatest number of a line.
@@ -27,9 +27,14 @@ pub fn refused(a: Assembly, r: Refusal) -> Assembly {
     a
 }
 
+// The first `len` bytes.
+pub fn first(bytes: &[u8], len: usize) -> &[u8] {
+    wire::part(bytes, Place { start: 0, len })
+}
+
 // What is handed over of the buffer, and whether the text starts with it.
 fn say_whole(len: usize, buffer: &[u8], text: &[u8]) {
-    if same(handed_shared(buffer, len), handed_shared(text, len)) {
+    if same(first(buffer, len), first(text, len)) {
         say(b" same ");
     } else {
         say(b" other ");
