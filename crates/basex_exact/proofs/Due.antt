@@ -1,0 +1,121 @@
+-- Writing: only published values are written, each as its encoding, and every other call gets the refusal that is due.
+use mathlib.Core.Path.{_≡_, refl, sym, ap, ap₂, _∙_}
+use mathlib.Core.List.{List, [], _∷_, flatten}
+use mathlib.Core.Bool.{Bool, true, false}
+use mathlib.Core.Logic.{_↔_}
+use Prim.Native.Nat.{ℕ, _+_, _≤_}
+use native.Mathlib.Omega.{arith}
+use lib.Dec.{ltb}
+use lib.ListN.{length, take}
+use borrow.Author.Tests.{ltb-true, ltb-false, le-ltb}
+use Rattle.wire.specs.Bytes.{if, over}
+use Rattle.wire.specs.declared.Refusal.{Refusal}
+use Rattle.wire.specs.declared.Refusal.the-variants.{NoEncoding, NoRoom}
+use Rattle.wire.proofs.Over.{placed-fits}
+use Rattle.basex_string.specs.declared.Spelled.{Spelled}
+use Rattle.basex_string.specs.declared.Spelled.the-variants.{Bytes, Refused}
+use Rattle.basex.specs.declared.Found.{Found}
+use Rattle.basex.specs.declared.Found.the-variants.{Known, Unknown}
+use Rattle.basex.specs.declared.Reply.{Reply}
+use Rattle.basex.specs.Kinds.{startsCommand, findOf, rowByte, isCommand}
+use Rattle.basex.specs.Request as request
+use Rattle.basex.specs.Request.{Request}
+use Rattle.basex.specs.Texts.{unused}
+use Rattle.basex_request.specs.Calls.{padded}
+use Rattle.basex_request.specs.Reading.{kindOf, textsOf}
+use Rattle.basex_request.specs.Writing.{requestOf, encodable, spelled, writtenAs, written, left}
+use Rattle.basex_request.proofs.Laws.{published-written, writing-exact, wrote-left}
+use Rattle.basex_request.proofs.Table.{command-one, command-starts, starts-command}
+use Rattle.basex_response.specs.Writing.{inRoom}
+use Rattle.basex_exact.specs.Exactly.{Fits, Means, Unwritten}
+use Rattle.basex_exact.proofs.Spare.{apart, chosen, exactly, room-back, no-room-back, spare-found, spare-unused, none-spare}
+
+-- every byte from 20 to FE stands for COMMAND
+row-written : (room kind : ℕ) (ts : List (List ℕ)) → written room kind ts ≡ written room (rowByte kind) ts
+unfolding written
+row-written room kind ts = by (startsCommand kind) refl
+  where
+    by : (f : Bool) → startsCommand kind ≡ f → writtenAs room kind (findOf kind) ts ≡ writtenAs room (if f 0x20 kind) (findOf (if f 0x20 kind)) ts
+    by true e = rw (starts-command kind e, starts-command 0x20 refl) refl
+    by false e = refl
+
+module _ (room kind : ℕ) (ts : List (List ℕ)) where
+  -- the request that is meant is written as one of its own kind and texts
+  meant : (q : Request) → Means kind ts q → written room kind ts ≡ written room (kindOf q) (padded (textsOf q))
+  meant q m = row-written room kind ts ∙ ap₂ (written room) (sym (m .named)) (sym (m .given))
+
+  request-means : (q : Request) → Means kind ts q → request.Published q → written room kind ts ≡ inRoom room 0 (length (request.encode q))
+  request-means q m p =
+      let z : 0 + length (request.encode q) ≡ length (request.encode q) = omega arith in
+      meant q m ∙ published-written q p room ∙ rw z refl
+
+  unwritten-back : (r : Refusal) → Unwritten room kind ts r → written room kind ts ≡ Refused r
+  unfolding written flatten
+  unwritten-back r (Unwritten.unknown f) = rw f refl
+  unwritten-back r (Unwritten.spare n reply f s) = rw f (rw (spare-unused ts n s) refl)
+  unwritten-back r (Unwritten.command t m o) = meant (Request.command t) m ∙ rw (starts-command 0x20 refl) (rw o refl)
+  unwritten-back r (Unwritten.no-room q m p h) = no-room-back (written room kind ts) room 0 (request.encode q) (request-means q m p) (omega arith)
+
+  abbrev Written : ℕ → Type 0
+  Written n = (q : Request) × Means kind ts q × request.Published q × Fits room 0 (request.encode q) n
+
+  written-back : (n : ℕ) → Written n → written room kind ts ≡ Bytes n
+  written-back n w = room-back (written room kind ts) room 0 (request.encode (w .0)) (request-means (w .0) (w .1) (w .2)) n (w .3)
+
+  abbrev Due : Spelled → Type 0
+  Due (Bytes n) = Written n
+  Due (Refused r) = Unwritten room kind ts r
+
+module _ (room kind : ℕ) (a b c d : List ℕ) where
+  abbrev ts : List (List ℕ)
+  ts = a ∷ b ∷ c ∷ d ∷ []
+
+  module _ (m : ℕ) (reply : Reply) (found : findOf kind ≡ Known m reply) (u : unused m (a ∷ b ∷ c ∷ d ∷ []) ≡ true) where
+    -- a COMMAND that has no encoding is the only one
+    no-encoding : (f : Bool) → isCommand reply ≡ f → encodable (if f (Request.command a) (Request.coded kind (take m ts))) ≡ false → Unwritten room kind ts NoEncoding
+    no-encoding false h o = apart (cc)
+    no-encoding true h o =
+        let s = command-starts kind m reply found h in
+        let one = command-one kind m reply found h in
+        let x = none-spare ts m 1 u (omega arith) in
+        let y = none-spare ts m 2 u (omega arith) in
+        let z = none-spare ts m 3 u (omega arith) in
+        Unwritten.command a (record { named = rw s refl; given = λ i. a ∷ sym x i ∷ sym y i ∷ sym z i ∷ [] }) o
+
+    -- the request that is meant, from what is written with room enough
+    request-due : Due room kind ts (spelled room (requestOf kind m reply ts))
+    unfolding written
+    request-due = chosen (Due room kind ts) (encodable q) fits (no-encoding (isCommand reply) refl)
+      where
+        q : Request
+        q = requestOf kind m reply ts
+
+        fits : encodable (requestOf kind m reply ts) ≡ true → Due room kind ts (if (ltb room (length (request.encode (requestOf kind m reply ts)))) (Refused NoRoom) (Bytes (length (request.encode (requestOf kind m reply ts)))))
+        fits o =
+            let n = length (request.encode (requestOf kind m reply ts)) in
+            let e : written n kind ts ≡ Bytes n = rw found (rw u (rw o (rw (le-ltb n n (omega arith)) refl))) in
+            let w = writing-exact n kind a b c d n .0 e in
+            let l = w .4 in
+            let means : Means kind ts (w .0) = record { named = w .2; given = w .3 } in
+            chosen (Due room kind ts) (ltb room n) (λ t. Unwritten.no-room (w .0) means (w .1) (let h = ltb-true room n t in omega arith)) (λ t. (w .0, means, w .1, record { count = sym l; within = let h = ltb-false room n t in omega arith }))
+
+  due : Due room kind ts (written room kind ts)
+  unfolding written
+  due = by (findOf kind) refl
+    where
+      by : (f : Found) → findOf kind ≡ f → Due room kind ts (writtenAs room kind f ts)
+      by Unknown p = Unwritten.unknown p
+      by (Known m reply) p = chosen (Due room kind ts) (unused m ts) (request-due m reply p) (λ u. Unwritten.spare m reply p (spare-found ts m u))
+
+  pub request-written : (n : ℕ) → (written room kind (a ∷ b ∷ c ∷ d ∷ []) ≡ Bytes n) ↔ Written room kind (a ∷ b ∷ c ∷ d ∷ []) n
+  request-written n = exactly (Due room kind ts) (written room kind ts) due (Bytes n) (written-back room kind ts n)
+
+  pub request-unwritten : (r : Refusal) → (written room kind (a ∷ b ∷ c ∷ d ∷ []) ≡ Refused r) ↔ Unwritten room kind (a ∷ b ∷ c ∷ d ∷ []) r
+  request-unwritten r = exactly (Due room kind ts) (written room kind ts) due (Refused r) (unwritten-back room kind ts r)
+
+-- .. and its encoding stands in the output then
+pub request-there : (out : List ℕ) (kind : ℕ) (ts : List (List ℕ)) (q : Request) → Means kind ts q → request.Published q → length (request.encode q) ≤ length out → left out kind ts (written (length out) kind ts) ≡ over out 0 (request.encode q)
+request-there out kind ts q m p h =
+    let n = length (request.encode q) in
+    let f : Fits (length out) 0 (request.encode q) n = record { count = refl; within = omega arith } in
+    ap (left out kind ts) (written-back (length out) kind ts n (q, m, p, f)) ∙ wrote-left (length out) kind n ts (q, p, m .named, m .given, refl, h) out ∙ placed-fits out 0 (request.encode q) (f .within)

@@ -1,0 +1,115 @@
+-- Tests and what came of them; texts given where some are taken: those beyond are all empty, or one is spare.
+use mathlib.Core.Path.{_≡_, refl, sym, ap, subst, _∙_}
+use mathlib.Core.List.{List, [], _∷_, _++_, flatten}
+use mathlib.Core.Bool.{Bool, true, false}
+use mathlib.Core.Logic.{_↔_}
+use Prim.Native.Nat.{ℕ, zero, suc, _+_, _≤_, _<_}
+use native.Mathlib.Omega.{arith}
+use lib.Dec.{ltb, eqb}
+use lib.ListN.{length, take, drop, getD, length-append, length-take, List·getD-eq-default}
+use lib.Seq.{getD-take}
+use borrow.Author.Tests.{ltb-true, ltb-false, lt-ltb, le-ltb, eqb-true, eqb-false, eq-eqb, ne-eqb}
+use Rattle.wire.specs.Bytes.{if}
+use Rattle.wire.specs.declared.Refusal.the-variants.{NoRoom}
+use Rattle.basex_string.specs.declared.Spelled.{Spelled}
+use Rattle.basex_string.specs.declared.Spelled.the-variants.{Bytes, Refused}
+use Rattle.basex.specs.Texts.{unused}
+use Rattle.basex_request.proofs.Taken.{beyond}
+use Rattle.basex_response.specs.Writing.{inRoom}
+use Rattle.basex_exact.specs.Exactly.{Spare, Fits}
+
+-- anything follows where `cc` finds two constructors equal
+pub apart : {P : Type 0} → _≡_ {A = ℕ} 0 1 → P
+apart z = absurd (omega arith)
+
+-- what holds of either branch holds of a test
+pub chosen : {A : Type 0} (D : A → Type 0) (t : Bool) {a b : A} → (t ≡ true → D a) → (t ≡ false → D b) → D (if t a b)
+chosen D true f g = f refl
+chosen D false f g = g refl
+
+-- an answer of which D holds is y exactly where D holds of y, if nothing else is answered where it does
+pub exactly : {A : Type 0} (D : A → Type 0) (x : A) → D x → (y : A) → (D y → x ≡ y) → (x ≡ y) ↔ D y
+exactly D x d y back = (λ e. subst D e d, back)
+
+-- .. of bytes for which there is room or not
+pub roomed : (D : Spelled → Type 0) (room at : ℕ) (bytes : List ℕ) → ((n : ℕ) → Fits room at bytes n → D (Bytes n)) → (room < at + length bytes → D (Refused NoRoom)) → D (inRoom room at (length bytes))
+roomed D room at bytes f g =
+    chosen D (ltb room (at + length bytes)) (λ t. g (ltb-true room (at + length bytes) t)) (λ t. f (length bytes) (record { count = refl; within = ltb-false room (at + length bytes) t }))
+
+pub room-back : (x : Spelled) (room at : ℕ) (bytes : List ℕ) → x ≡ inRoom room at (length bytes) → (n : ℕ) → Fits room at bytes n → x ≡ Bytes n
+room-back x room at bytes e n f =
+    let h : at + length bytes ≤ room = omega (arith, f .count, f .within) in
+    e ∙ rw (le-ltb room (at + length bytes) h) (ap Bytes (sym (f .count)))
+
+pub no-room-back : (x : Spelled) (room at : ℕ) (bytes : List ℕ) → x ≡ inRoom room at (length bytes) → room < at + length bytes → x ≡ Refused NoRoom
+no-room-back x room at bytes e h = e ∙ rw (lt-ltb room (at + length bytes) h) refl
+
+spare-within : (g : List (List ℕ)) (n : ℕ) → (length (flatten (drop n g)) ≡ 0 → ⊥) → Spare n g
+unfolding flatten
+spare-within [] zero h = absurd (h refl)
+spare-within [] (suc n) h = absurd (h refl)
+spare-within (t ∷ g) zero h = by (spare-within g zero) (eqb (length t) 0) refl
+  where
+    later : Spare zero g → Spare zero (t ∷ g)
+    later s = record { number = suc (s .number); beyond = omega arith; filled = s .filled }
+
+    by : ((length (flatten g) ≡ 0 → ⊥) → Spare zero g) → (f : Bool) → eqb (length t) 0 ≡ f → Spare zero (t ∷ g)
+    by more true e =
+        let z = eqb-true (length t) 0 e in
+        let l = length-append t (flatten g) in
+        later (more (λ (k : length (flatten g) ≡ 0). h (omega arith)))
+    by more false e =
+        let z = eqb-false (length t) 0 e in
+        let p : 0 < length t = omega arith in
+        record { number = 0; beyond = omega arith; filled = p }
+spare-within (t ∷ g) (suc n) h =
+    let s = spare-within g n h in
+    let b = s .beyond in
+    record { number = suc (s .number); beyond = omega arith; filled = s .filled }
+
+module _ (g : List (List ℕ)) (n : ℕ) where
+  pub spare-found : unused n g ≡ false → Spare n g
+  spare-found u = spare-within g n (eqb-false (length (flatten (drop n g))) 0 u)
+
+  pub spare-unused : Spare n g → unused n g ≡ false
+  spare-unused s =
+      let b = beyond g n (s .number) (s .beyond) in
+      let f = s .filled in
+      ne-eqb _ _ (λ (z : length (flatten (drop n g)) ≡ 0). omega arith)
+
+empty : (t : List ℕ) → length t ≡ 0 → t ≡ []
+empty [] e = refl
+empty (x ∷ t) e = absurd (omega arith)
+
+-- where none is spare, those that are not taken are empty
+pub none-spare : (g : List (List ℕ)) (n k : ℕ) → unused n g ≡ true → n ≤ k → getD g k [] ≡ []
+none-spare g n k u h =
+    let z = eqb-true (length (flatten (drop n g))) 0 u in
+    let b = beyond g n k h in
+    empty (getD g k []) (omega arith)
+
+-- texts as they are given, empty ones behind them: all are taken, and none is spare
+pub given-back : (ts g : List (List ℕ)) → length ts ≤ length g → ((k : ℕ) → k < length g → getD ts k [] ≡ getD g k []) → (take (length ts) g ≡ ts) × (unused (length ts) g ≡ true)
+unfolding flatten
+given-back [] [] h e = (refl, refl)
+given-back [] (t ∷ g) h e =
+    let i = given-back [] g (omega arith) (λ k l. e (suc k) (omega arith)) in
+    let z = eqb-true (length (flatten g)) 0 (i .1) in
+    let y : length t ≡ 0 = ap length (sym (e 0 (omega arith))) in
+    let l = length-append t (flatten g) in
+    (refl, eq-eqb (length (t ++ flatten g)) 0 (omega arith))
+given-back (u ∷ ts) [] h e = absurd (omega arith)
+given-back (u ∷ ts) (t ∷ g) h e =
+    let i = given-back ts g (omega arith) (λ k l. e (suc k) (omega arith)) in
+    (λ j. sym (e 0 (omega arith)) j ∷ i .0 j, i .1)
+
+-- .. and the other way round: those that are taken are the texts given, empty ones behind them
+pub taken-given : (g : List (List ℕ)) (n k : ℕ) → unused n g ≡ true → getD (take n g) k [] ≡ getD g k []
+taken-given g n k u = by (ltb k n) refl
+  where
+    by : (f : Bool) → ltb k n ≡ f → getD (take n g) k [] ≡ getD g k []
+    by true e = getD-take n g k [] (ltb-true k n e)
+    by false e =
+        let h = ltb-false k n e in
+        let l = length-take n g in
+        List·getD-eq-default (take n g) [] (omega arith) ∙ sym (none-spare g n k u h)
