@@ -1,8 +1,14 @@
 -- The theorems of specs/Exactly.antt.
-use Rattle.basex_string.specs.declared.Spelled.the-variants.{Bytes, Refused}
-use Rattle.basex_exact.specs.Exactly.{WrittenExactly}
+use Rattle.basex_string.specs.declared.Spelled.the-variants as spelled
+use Rattle.basex_string.specs.declared.StringAt.the-variants as string-at
+use Rattle.basex_request.specs.declared.Requested.the-variants as requested
+use Rattle.basex_response.specs.declared.ItemAt.the-variants as item-at
+use Rattle.basex_response.specs.declared.Replied.the-variants as replied
+use Rattle.basex_exact.specs.Exactly.{WrittenExactly, ToldExactly, InputSuffices}
 use Rattle.basex_exact.proofs.Due.{request-written, request-unwritten, request-there}
 use Rattle.basex_exact.proofs.DueParts.{item-exactly, item-there, end-exactly, end-there}
+use Rattle.basex_exact.proofs.ToldStrings.{string-located, string-decoded, item-told}
+use Rattle.basex_exact.proofs.ToldMessages.{request-told, response-told, string-short, request-short, response-short}
 
 pub written-exactly : WrittenExactly
 written-exactly =
@@ -10,10 +16,29 @@ written-exactly =
       request-written = request-written;
       request-unwritten = request-unwritten;
       request-there = request-there;
-      item-written = λ room at kind id uri text n. item-exactly room at kind id uri text (Bytes n);
-      item-unwritten = λ room at kind id uri text r. item-exactly room at kind id uri text (Refused r);
+      item-written = λ room at kind id uri text n. item-exactly room at kind id uri text (spelled.Bytes n);
+      item-unwritten = λ room at kind id uri text r. item-exactly room at kind id uri text (spelled.Refused r);
       item-there = item-there;
-      end-written = λ room at kind first second status error n. end-exactly room at kind first second status error (Bytes n);
-      end-unwritten = λ room at kind first second status error r. end-exactly room at kind first second status error (Refused r);
+      end-written = λ room at kind first second status error n. end-exactly room at kind first second status error (spelled.Bytes n);
+      end-unwritten = λ room at kind first second status error r. end-exactly room at kind first second status error (spelled.Refused r);
       end-there = end-there;
     }
+
+pub told-exactly : ToldExactly
+told-exactly =
+    record {
+      string-located = λ b at len next. string-located b at (string-at.At len next);
+      string-unlocated = λ b at r. string-located b at (string-at.Refused r);
+      string-decoded = λ b at out to len next. string-decoded b at out to (string-at.At len next);
+      string-undecoded = λ b at out to r. string-decoded b at out to (string-at.Refused r);
+      request-told = λ s out kind a b c d n. request-told s out (requested.Read kind a b c d n);
+      request-refused = λ s out r. request-told s out (requested.Refused r);
+      response-told = λ kind s out first second items listed status error n. response-told kind s out (replied.Read first second items listed status error n);
+      response-refused = λ kind s out r. response-told kind s out (replied.Refused r);
+      item-told = λ full s at id uri text next. item-told full s at (item-at.Item id uri text next);
+      item-end = λ full s at next. item-told full s at (item-at.End next);
+      item-refused = λ full s at r. item-told full s at (item-at.Refused r);
+    }
+
+pub input-suffices : InputSuffices
+input-suffices = record { string-short = string-short; request-short = request-short; response-short = response-short }

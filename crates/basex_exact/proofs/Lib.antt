@@ -7,4 +7,7 @@ pub mod Refusals
 pub mod Spare
 pub mod Due
 pub mod DueParts
+pub mod Told
+pub mod ToldStrings
+pub mod ToldMessages
 pub mod Exactly

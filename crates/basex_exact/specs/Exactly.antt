@@ -10,18 +10,28 @@ use Rattle.wire.specs.Fields.{Got}
 use Rattle.wire.specs.declared.Refusal.{Refusal}
 use Rattle.wire.specs.declared.Refusal.the-variants.{UnknownInstruction, ValueNotAllowed, NoEncoding, NoRoom}
 use Rattle.basex_string.specs.declared.Spelled.the-variants as spelled
+use Rattle.basex_string.specs.declared.StringAt.the-variants as string-at
+use Rattle.basex_string.specs.Answers as decoding
+use Rattle.basex_string.specs.Scan as strings
 use Rattle.basex.specs.declared.Found.the-variants.{Known, Unknown}
 use Rattle.basex.specs.declared.Reply.{Reply}
-use Rattle.basex.specs.Kinds.{findOf, rowByte, ahead, behind, listed, isFull, idAllowed, hasUri, statusAllowed}
+use Rattle.basex.specs.Kinds.{findOf, rowByte, ahead, behind, listed, isFull, idAllowed, hasUri}
 use Rattle.basex.specs.Request as request
 use Rattle.basex.specs.Request.{Request, opens}
 use Rattle.basex.specs.Response as response
 use Rattle.basex.specs.Response.{Item, Response, itemBytes, ItemAllowed}
 use Rattle.basex.specs.Texts.{lengthAt}
+use Rattle.basex_request.specs.declared.Requested.the-variants as requested
 use Rattle.basex_request.specs.Calls.{padded, cut}
 use Rattle.basex_request.specs.Reading as requests
 use Rattle.basex_request.specs.Reading.{kindOf, textsOf}
 use Rattle.basex_request.specs.Writing as requesting
+use Rattle.basex_response.specs.declared.ItemAt.the-variants as item-at
+use Rattle.basex_response.specs.declared.Replied.the-variants as replied
+use Rattle.basex_response.specs.Items as items
+use Rattle.basex_response.specs.Items.{itemTexts, itemAt}
+use Rattle.basex_response.specs.Reading as responses
+use Rattle.basex_response.specs.Reading.{allTexts}
 use Rattle.basex_response.specs.Writing.{itemOf, itemWritten, fullOf, endWritten, endBytes, leftAt}
 use Rattle.basex_exact.specs.Calls.{uriOf, textOf}
 
@@ -120,3 +130,97 @@ pub record WrittenExactly : Type 0 where
       → (endWritten room at kind first second status error ≡ spelled.Refused r) ↔ EndUnwritten room at kind first second status error r
   pub end-there : (out : List ℕ) (at kind : ℕ) (first second : List ℕ) (status : ℕ) (error : List ℕ) (reply : Reply) (r : Response) → MeansEnd kind first second status error reply r → at + length (response.encode reply r) ≤ length out
       → leftAt out at (endBytes (findOf kind) first second status error) (endWritten (length out) at kind first second status error) ≡ over out at (response.encode reply r)
+
+-- a reading gives a, and leaves what starts at `next` in the bytes s
+pub record Reads {A : Type 0} (x : Got A) (s : List ℕ) (next : ℕ) (a : A) : Type 0 where
+  pub read : x ≡ Got.got a (drop next s)
+  pub place : next ≤ length s
+
+-- the refusal that is due for a call that puts what it reads into an output of so many bytes
+pub data Unread {A : Type 0} (x : Got A) (need : A → ℕ) (room : ℕ) : Refusal → Type 0 where
+  -- what reading refuses
+  refused : (r : Refusal) → x ≡ Got.refused r → Unread x need room r
+  -- "with 10 last": it reads well, and does not fit
+  no-room : (a : A) (rest : List ℕ) → x ≡ Got.got a rest → room < need a → Unread x need room NoRoom
+
+-- the string at `at`: how many bytes its text has, and where what follows starts
+pub record Located (b : List ℕ) (at len next : ℕ) : Type 0 where
+  pub text : List ℕ
+  pub reads : Reads (strings.reading (drop at b)) b next text
+  pub long : len ≡ length text
+
+-- .. with its text in the output from `to` on
+pub record Decoded (b : List ℕ) (at : ℕ) (out : List ℕ) (to len next : ℕ) : Type 0 where
+  pub text : List ℕ
+  pub reads : Reads (strings.reading (drop at b)) b next text
+  pub long : len ≡ length text
+  pub fits : to + len ≤ length out
+  pub there : take len (drop to (decoding.left out to (strings.reading (drop at b)))) ≡ text
+
+-- four texts told by their lengths: they stand one behind the other in front of the output
+pub record Cut (ts : List (List ℕ)) (out : List ℕ) (a b c d : ℕ) : Type 0 where
+  pub lengths : map length ts ≡ a ∷ b ∷ c ∷ d ∷ []
+  pub there : cut out a b c d ≡ ts
+
+-- what is told of a request: the kind, the lengths of its texts, and how many bytes were read
+pub record RequestTold (s out : List ℕ) (kind a b c d n : ℕ) : Type 0 where
+  pub request : Request
+  pub reads : Reads (requests.reading s) s n request
+  pub named : kind ≡ kindOf request
+  pub fits : length (flatten (textsOf request)) ≤ length out
+  pub texts : Cut (padded (textsOf request)) (requests.left out (requests.reading s)) a b c d
+
+-- the texts of a response as they are told: the first and the second ahead of the status, those of the items together, the error behind it
+abbrev pub partsOf : Response → List (List ℕ)
+partsOf r = getD (r .texts) 0 [] ∷ getD (r .texts) 1 [] ∷ flatten (itemTexts (r .items)) ∷ getD (r .error) 0 [] ∷ []
+
+-- what is told of a response to a request that starts with the byte: the lengths of its texts, how many items, the status, and how many bytes were read
+pub record ResponseTold (kind : ℕ) (s out : List ℕ) (first second items listed status error n : ℕ) : Type 0 where
+  pub response : Response
+  pub reads : Reads (responses.reading kind s) s n response
+  pub count : items ≡ length (response .items)
+  pub state : status ≡ response .status
+  pub fits : length (flatten (allTexts response)) ≤ length out
+  pub texts : Cut (partsOf response) (responses.left out (responses.reading kind s)) first second listed error
+
+-- what is told of an item whose bytes stand at `at`: its id, the lengths of its URI and its text, and where what follows starts
+pub record ItemTold (full : Bool) (s : List ℕ) (at id uri text next : ℕ) : Type 0 where
+  pub item : Item
+  pub allowed : ItemAllowed full item
+  pub stands : drop at s ≡ itemBytes item ++ drop next s
+  pub place : next ≤ length s
+  pub named : id ≡ item .id
+  pub one : uri ≡ length (uriOf full item)
+  pub two : text ≡ length (textOf full item)
+
+-- a call of reading tells what is there, and else the refusal that is due
+pub record ToldExactly : Type 0 where
+  pub string-located : (b : List ℕ) (at len next : ℕ)
+      → (decoding.located (length b) (strings.reading (drop at b)) ≡ string-at.At len next) ↔ Located b at len next
+  pub string-unlocated : (b : List ℕ) (at : ℕ) (r : Refusal)
+      → (decoding.located (length b) (strings.reading (drop at b)) ≡ string-at.Refused r) ↔ (strings.reading (drop at b) ≡ Got.refused r)
+  pub string-decoded : (b : List ℕ) (at : ℕ) (out : List ℕ) (to len next : ℕ)
+      → (decoding.decoded (length b) (length out) to (strings.reading (drop at b)) ≡ string-at.At len next) ↔ Decoded b at out to len next
+  pub string-undecoded : (b : List ℕ) (at : ℕ) (out : List ℕ) (to : ℕ) (r : Refusal)
+      → (decoding.decoded (length b) (length out) to (strings.reading (drop at b)) ≡ string-at.Refused r) ↔ Unread (strings.reading (drop at b)) (λ t. to + length t) (length out) r
+  pub request-told : (s out : List ℕ) (kind a b c d n : ℕ)
+      → (requests.requested (length s) (length out) (requests.reading s) ≡ requested.Read kind a b c d n) ↔ RequestTold s out kind a b c d n
+  pub request-refused : (s out : List ℕ) (r : Refusal)
+      → (requests.requested (length s) (length out) (requests.reading s) ≡ requested.Refused r) ↔ Unread (requests.reading s) (λ q. length (flatten (textsOf q))) (length out) r
+  pub response-told : (kind : ℕ) (s out : List ℕ) (first second items listed status error n : ℕ)
+      → (responses.answered (length s) (length out) (responses.reading kind s) ≡ replied.Read first second items listed status error n) ↔ ResponseTold kind s out first second items listed status error n
+  pub response-refused : (kind : ℕ) (s out : List ℕ) (r : Refusal)
+      → (responses.answered (length s) (length out) (responses.reading kind s) ≡ replied.Refused r) ↔ Unread (responses.reading kind s) (λ p. length (flatten (allTexts p))) (length out) r
+  pub item-told : (full : Bool) (s : List ℕ) (at id uri text next : ℕ)
+      → (itemAt full at (length s - at) (items.next full (drop at s)) ≡ item-at.Item id uri text next) ↔ ItemTold full s at id uri text next
+  -- "items, then 00"
+  pub item-end : (full : Bool) (s : List ℕ) (at next : ℕ)
+      → (itemAt full at (length s - at) (items.next full (drop at s)) ≡ item-at.End next) ↔ ((drop at s ≡ 0 ∷ drop next s) × (next ≡ at + 1))
+  pub item-refused : (full : Bool) (s : List ℕ) (at : ℕ) (r : Refusal)
+      → (itemAt full at (length s - at) (items.next full (drop at s)) ≡ item-at.Refused r) ↔ (items.next full (drop at s) ≡ Got.refused r)
+
+-- no text is longer than its bytes: an output as long as the input has room for all of them
+pub record InputSuffices : Type 0 where
+  pub string-short : (s t rest : List ℕ) → strings.reading s ≡ Got.got t rest → length t ≤ length s
+  pub request-short : (s : List ℕ) (q : Request) (rest : List ℕ) → requests.reading s ≡ Got.got q rest → length (flatten (textsOf q)) ≤ length s
+  pub response-short : (kind : ℕ) (s : List ℕ) (r : Response) (rest : List ℕ) → responses.reading kind s ≡ Got.got r rest → length (flatten (allTexts r)) ≤ length s
