@@ -2,10 +2,12 @@
 use mathlib.Core.Bool.{Bool, true, false}
 use mathlib.Core.List.{List, [], _∷_, _++_}
 use mathlib.Core.Path.{_≡_}
-use Prim.Native.Nat.{ℕ}
-use lib.ListN.{length}
+use Prim.Native.Nat.{ℕ, _-_}
+use lib.Dec.{eqb}
+use lib.ListN.{length, drop}
 use Rattle.wire.specs.Bytes.{if}
 use Rattle.basex.specs.declared.Reply.{Reply}
+use Rattle.basex.specs.declared.Reply.the-variants.{Command, Stored, Query, Results, Full}
 use Rattle.basex.specs.declared.Found.the-variants.{Known}
 use Rattle.basex.specs.Kinds.{findOf, ahead, behind, listed, isFull, idAllowed, itemStrings, statusAllowed}
 use Rattle.basex.specs.Texts.{strings}
@@ -57,6 +59,18 @@ pub record Published (reply : Reply) (r : Response) : Type 0 where
   pub list : ListAllowed (listed reply) (isFull reply) (r .items)
   pub ended : statusAllowed (r .status) ≡ true
   pub last : length (r .error) ≡ behind reply (r .status)
+
+-- where the error string is: "with status 01 the last string is the error" (COMMAND: the second; CREATE, ADD, PUT, PUTBINARY: the only one), or the one behind the status ("01 and an error string")
+abbrev pub errorAs : Reply → Response → List (List ℕ)
+errorAs Command r = drop (length (r .texts) - 1) (r .texts)
+errorAs Stored r = drop (length (r .texts) - 1) (r .texts)
+errorAs Query r = r .error
+errorAs Results r = r .error
+errorAs Full r = r .error
+
+-- the error string of a response, none but with status 01
+unfoldable pub errorOf : Reply → Response → List (List ℕ)
+errorOf reply r = if (eqb (r .status) 1) (errorAs reply r) []
 
 -- in front of s stands the encoding of r, a response to a request that starts with the byte, and rest behind it
 pub record Stands (kind : ℕ) (r : Response) (s rest : List ℕ) : Type 0 where

@@ -4,9 +4,10 @@ use Rattle.basex_string.specs.declared.StringAt.the-variants as string-at
 use Rattle.basex_request.specs.declared.Requested.the-variants as requested
 use Rattle.basex_response.specs.declared.ItemAt.the-variants as item-at
 use Rattle.basex_response.specs.declared.Replied.the-variants as replied
-use Rattle.basex_exact.specs.Exactly.{WrittenExactly, ToldExactly, InputSuffices}
+use Rattle.basex_exact.specs.Exactly.{WrittenExactly, ToldExactly, InputSuffices, ErrorsExactly}
 use Rattle.basex_exact.proofs.Due.{request-written, request-unwritten, request-there}
 use Rattle.basex_exact.proofs.DueParts.{item-exactly, item-there, end-exactly, end-there}
+use Rattle.basex_exact.proofs.Errors.{error-one, error-none}
 use Rattle.basex_exact.proofs.ToldStrings.{string-located, string-decoded, item-told}
 use Rattle.basex_exact.proofs.ToldMessages.{request-told, response-told, string-short, request-short, response-short}
 
@@ -42,3 +43,6 @@ told-exactly =
 
 pub input-suffices : InputSuffices
 input-suffices = record { string-short = string-short; request-short = request-short; response-short = response-short }
+
+pub errors-exactly : ErrorsExactly
+errors-exactly = record { error-one = error-one; error-none = error-none }

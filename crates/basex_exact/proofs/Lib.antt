@@ -10,4 +10,5 @@ pub mod DueParts
 pub mod Told
 pub mod ToldStrings
 pub mod ToldMessages
+pub mod Errors
 pub mod Exactly

@@ -15,6 +15,7 @@ use Rattle.basex_string.specs.Answers as decoding
 use Rattle.basex_string.specs.Scan as strings
 use Rattle.basex.specs.declared.Found.the-variants.{Known, Unknown}
 use Rattle.basex.specs.declared.Reply.{Reply}
+use Rattle.basex.specs.declared.Reply.the-variants.{Command, Stored, Query, Results, Full}
 use Rattle.basex.specs.Kinds.{findOf, rowByte, ahead, behind, listed, isFull, idAllowed, hasUri}
 use Rattle.basex.specs.Request as request
 use Rattle.basex.specs.Request.{Request, opens}
@@ -224,3 +225,24 @@ pub record InputSuffices : Type 0 where
   pub string-short : (s t rest : List ℕ) → strings.reading s ≡ Got.got t rest → length t ≤ length s
   pub request-short : (s : List ℕ) (q : Request) (rest : List ℕ) → requests.reading s ≡ Got.got q rest → length (flatten (textsOf q)) ≤ length s
   pub response-short : (kind : ℕ) (s : List ℕ) (r : Response) (rest : List ℕ) → responses.reading kind s ≡ Got.got r rest → length (flatten (allTexts r)) ≤ length s
+
+-- which of a response's parts is the error where there is one
+abbrev pub errorPart : Reply → ℕ
+errorPart Command = 1
+errorPart Stored = 0
+errorPart Query = 3
+errorPart Results = 3
+errorPart Full = 3
+
+-- the one error string of a response: the last of its strings, and one of the parts that are told
+pub record OneError (reply : Reply) (r : Response) : Type 0 where
+  pub front : List (List ℕ)
+  pub error : List ℕ
+  pub one : response.errorOf reply r ≡ error ∷ []
+  pub last : allTexts r ≡ front ++ (error ∷ [])
+  pub told : getD (partsOf r) (errorPart reply) [] ≡ error
+
+-- "with status 01 the last string is the error", and with 00 there is none
+pub record ErrorsExactly : Type 0 where
+  pub error-one : (reply : Reply) (r : Response) → response.Published reply r → r .status ≡ 1 → OneError reply r
+  pub error-none : (reply : Reply) (r : Response) → r .status ≡ 0 → response.errorOf reply r ≡ []
