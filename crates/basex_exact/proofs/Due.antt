@@ -3,7 +3,7 @@ use mathlib.Core.Path.{_≡_, refl, sym, ap, ap₂, _∙_}
 use mathlib.Core.List.{List, [], _∷_, flatten}
 use mathlib.Core.Bool.{Bool, true, false}
 use mathlib.Core.Logic.{_↔_}
-use Prim.Native.Nat.{ℕ, _+_, _≤_}
+use Prim.Native.Nat.{ℕ, _+_, _≤_, _<_}
 use native.Mathlib.Omega.{arith}
 use lib.Dec.{ltb}
 use lib.ListN.{length, take}
@@ -12,6 +12,8 @@ use Rattle.wire.specs.Bytes.{if, over}
 use Rattle.wire.specs.declared.Refusal.{Refusal}
 use Rattle.wire.specs.declared.Refusal.the-variants.{NoEncoding, NoRoom}
 use Rattle.wire.proofs.Over.{placed-fits}
+use Rattle.basex_string.specs.Answers.{spelling}
+use Rattle.basex_string.specs.Strings.{string}
 use Rattle.basex_string.specs.declared.Spelled.{Spelled}
 use Rattle.basex_string.specs.declared.Spelled.the-variants.{Bytes, Refused}
 use Rattle.basex.specs.declared.Found.{Found}
@@ -28,7 +30,19 @@ use Rattle.basex_request.proofs.Laws.{published-written, writing-exact, wrote-l
 use Rattle.basex_request.proofs.Table.{command-one, command-starts, starts-command}
 use Rattle.basex_response.specs.Writing.{inRoom}
 use Rattle.basex_exact.specs.Exactly.{Fits, Means, Unwritten}
-use Rattle.basex_exact.proofs.Spare.{apart, chosen, exactly, room-back, no-room-back, spare-found, spare-unused, none-spare}
+use Rattle.basex_exact.proofs.Spare.{apart, chosen, exactly, roomed, room-back, no-room-back, spare-found, spare-unused, none-spare}
+
+module _ (room at : ℕ) (text : List ℕ) where
+  abbrev StringDue : Spelled → Type 0
+  StringDue (Bytes n) = Fits room at (string text) n
+  StringDue (Refused r) = (r ≡ NoRoom) × (room < at + length (string text))
+
+  string-back : (y : Spelled) → StringDue y → spelling room at text ≡ y
+  string-back (Bytes n) f = room-back (spelling room at text) room at (string text) refl n f
+  string-back (Refused r) p = no-room-back (spelling room at text) room at (string text) refl (p .1) ∙ ap Refused (sym (p .0))
+
+  pub string-exactly : (y : Spelled) → (spelling room at text ≡ y) ↔ StringDue y
+  string-exactly y = exactly StringDue (spelling room at text) (roomed StringDue room at (string text) (λ n f. f) (λ h. (refl, h))) y (string-back y)
 
 -- every byte from 20 to FE stands for COMMAND
 row-written : (room kind : ℕ) (ts : List (List ℕ)) → written room kind ts ≡ written room (rowByte kind) ts

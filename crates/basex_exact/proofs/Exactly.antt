@@ -5,15 +5,17 @@ use Rattle.basex_request.specs.declared.Requested.the-variants as requested
 use Rattle.basex_response.specs.declared.ItemAt.the-variants as item-at
 use Rattle.basex_response.specs.declared.Replied.the-variants as replied
 use Rattle.basex_exact.specs.Exactly.{WrittenExactly, ToldExactly, InputSuffices, ErrorsExactly}
-use Rattle.basex_exact.proofs.Due.{request-written, request-unwritten, request-there}
+use Rattle.basex_exact.proofs.Due.{string-exactly, request-written, request-unwritten, request-there}
 use Rattle.basex_exact.proofs.DueParts.{item-exactly, item-there, end-exactly, end-there}
 use Rattle.basex_exact.proofs.Errors.{error-one, error-none}
-use Rattle.basex_exact.proofs.ToldStrings.{string-located, string-decoded, item-told}
-use Rattle.basex_exact.proofs.ToldMessages.{request-told, response-told, string-short, request-short, response-short}
+use Rattle.basex_exact.proofs.ToldStrings.{string-located, string-decoded, string-no-room, item-told}
+use Rattle.basex_exact.proofs.ToldMessages.{request-told, request-no-room, response-told, response-no-room, string-short, request-short, response-short}
 
 pub written-exactly : WrittenExactly
 written-exactly =
     record {
+      string-written = λ room at text n. string-exactly room at text (spelled.Bytes n);
+      string-unwritten = λ room at text r. string-exactly room at text (spelled.Refused r);
       request-written = request-written;
       request-unwritten = request-unwritten;
       request-there = request-there;
@@ -32,10 +34,13 @@ told-exactly =
       string-unlocated = λ b at r. string-located b at (string-at.Refused r);
       string-decoded = λ b at out to len next. string-decoded b at out to (string-at.At len next);
       string-undecoded = λ b at out to r. string-decoded b at out to (string-at.Refused r);
+      string-no-room = string-no-room;
       request-told = λ s out kind a b c d n. request-told s out (requested.Read kind a b c d n);
       request-refused = λ s out r. request-told s out (requested.Refused r);
+      request-no-room = request-no-room;
       response-told = λ kind s out first second items listed status error n. response-told kind s out (replied.Read first second items listed status error n);
       response-refused = λ kind s out r. response-told kind s out (replied.Refused r);
+      response-no-room = response-no-room;
       item-told = λ full s at id uri text next. item-told full s at (item-at.Item id uri text next);
       item-end = λ full s at next. item-told full s at (item-at.End next);
       item-refused = λ full s at r. item-told full s at (item-at.Refused r);

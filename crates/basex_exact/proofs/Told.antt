@@ -15,7 +15,7 @@ use Rattle.wire.proofs.Over.{placed-fits}
 use Rattle.basex.specs.Texts.{lengthAt}
 use Rattle.basex_request.specs.Calls.{padded, cut}
 use Rattle.basex_request.proofs.Parts.{cut-flatten}
-use Rattle.basex_exact.specs.Exactly.{Reads, Unread, Cut}
+use Rattle.basex_exact.specs.Exactly.{Reads, TooLong, Unread, Cut}
 use Rattle.basex_exact.proofs.Spare.{chosen}
 
 -- what stands behind bytes that were read starts there
@@ -39,12 +39,12 @@ module _ {A B : Type 0} (refuse : Refusal → B) (tell : A → ℕ → B) (need 
       by : (y : Got A) → x ≡ y → D (answer y)
       by (Got.refused r) p = f r (Unread.refused r p)
       by (Got.got a rest) p =
-          chosen D (ltb room (need a)) (λ t. f NoRoom (Unread.no-room a rest p (ltb-true room (need a) t)))
+          chosen D (ltb room (need a)) (λ t. f NoRoom (Unread.no-room (record { value = a; rest = rest; read = p; long = ltb-true room (need a) t })))
           (λ t. g a (length s - length rest) (record { read = p ∙ ap (Got.got a) (sym (ends a rest p)); place = omega arith }) (ltb-false room (need a) t))
 
   pub unread-back : (x : Got A) (r : Refusal) → Unread x need room r → answer x ≡ refuse r
   unread-back x r (Unread.refused q e) = rw e refl
-  unread-back x r (Unread.no-room a rest e h) = rw e (rw (lt-ltb room (need a) h) refl)
+  unread-back x r (Unread.no-room t) = rw (t .read) (rw (lt-ltb room (need (t .value)) (t .long)) refl)
 
   pub reads-back : (x : Got A) (n : ℕ) (a : A) → Reads x s n a → need a ≤ room → answer x ≡ tell a n
   reads-back x n a r h =
@@ -52,6 +52,11 @@ module _ {A B : Type 0} (refuse : Refusal → B) (tell : A → ℕ → B) (need 
       let l = length-drop n s in
       let k : length s - length (drop n s) ≡ n = omega arith in
       rw (r .read) (rw (le-ltb room (need a) h) (ap (tell a) k))
+
+-- a reading that never refuses with 10 is refused with it exactly where what it gives is too long
+pub ten : {A : Type 0} (x : Got A) (need : A → ℕ) (room : ℕ) → (x ≡ Got.refused NoRoom → ⊥) → (r : Refusal) → r ≡ NoRoom → Unread x need room r → TooLong x need room
+ten x need room never r e (Unread.refused q p) = absurd (never (p ∙ ap Got.refused e))
+ten x need room never r e (Unread.no-room t) = t
 
 -- a text that was put from `to` on is there
 pub text-there : (out : List ℕ) (to : ℕ) (t : List ℕ) → to + length t ≤ length out → take (length t) (drop to (placed out to t)) ≡ t

@@ -1,12 +1,14 @@
 -- What is told of a request and of a response, and that an output as long as the input has room for their texts.
 use mathlib.Core.Path.{_≡_, refl, sym, ap, ap₂, subst, _∙_}
 use mathlib.Core.List.{List, [], _∷_, _++_, append-assoc, append-nil, flatten}
-use mathlib.Core.Logic.{_↔_}
+use mathlib.Core.Logic.{_↔_, _⊎_, inl, inr}
 use Prim.Native.Nat.{ℕ, _-_, _≤_}
 use native.Mathlib.Omega.{arith}
 use lib.ListN.{length, drop, getD, length-append}
 use borrow.Author.Tests.{leb-true}
 use Rattle.wire.specs.Fields.{Got}
+use Rattle.wire.specs.declared.Refusal.the-variants.{UnknownInstruction, NoRoom}
+use Rattle.wire.proofs.Over.{placed-fits}
 use Rattle.basex_string.specs.Scan as strings
 use Rattle.basex_string.specs.Strings.{string}
 use Rattle.basex_string.proofs.Laws as string-laws
@@ -20,6 +22,7 @@ use Rattle.basex_request.specs.declared.Requested.the-variants as requested-as
 use Rattle.basex_request.specs.Reading as requests
 use Rattle.basex_request.specs.Reading.{kindOf, textsOf, requested}
 use Rattle.basex_request.proofs.Laws as request-laws
+use Rattle.basex_request.proofs.Laws.{InReading}
 use Rattle.basex_response.specs.declared.Replied.{Replied}
 use Rattle.basex_response.specs.declared.Replied.the-variants as replied
 use Rattle.basex_response.specs.Items.{itemTexts}
@@ -29,12 +32,13 @@ use Rattle.basex_response.specs.Reading.{fieldsOf, allTexts, answered}
 use Rattle.basex_response.proofs.Fields.{ahead-few, behind-few}
 use Rattle.basex_response.proofs.Sizes.{texts-shorter}
 use Rattle.basex_response.proofs.Whole.{told}
-use Rattle.basex_exact.specs.Exactly.{Reads, Unread, RequestTold, partsOf, ResponseTold}
+use Rattle.basex_exact.specs.Exactly.{Reads, TooLong, Unread, RequestTold, partsOf, ResponseTold}
 use Rattle.basex_exact.proofs.Handed.{flatten-append}
-use Rattle.basex_exact.proofs.Listed.{same}
+use Rattle.basex_exact.proofs.Listed.{same, OfFields}
+use Rattle.basex_exact.proofs.Refusals.{reading-refuses}
 use Rattle.basex_exact.proofs.Responses.{response-exact, reading-known}
-use Rattle.basex_exact.proofs.Spare.{exactly}
-use Rattle.basex_exact.proofs.Told.{behind-there, answer, tells, unread-back, reads-back, cut-there}
+use Rattle.basex_exact.proofs.Spare.{apart, exactly}
+use Rattle.basex_exact.proofs.Told.{behind-there, answer, tells, unread-back, reads-back, ten, cut-there}
 
 module _ (s out : List ℕ) where
   abbrev requestTell : Request → ℕ → Requested
@@ -58,7 +62,7 @@ module _ (s out : List ℕ) where
   request-tells = subst Requests (sym (requested-is (requests.reading s))) (tells requested-as.Refused requestTell requestNeed (length out) s Requests (requests.reading s) request-ends (λ r u. u) read)
     where
       read : (q : Request) (n : ℕ) → Reads (requests.reading s) s n q → length (flatten (textsOf q)) ≤ length out → Requests (requestTell q n)
-      read q n r h = record { request = q; reads = r; named = refl; fits = h; texts = rw (r .read) (cut-there (textsOf q) (flatten (textsOf q)) out refl h) }
+      read q n r h = record { request = q; reads = r; named = refl; fits = h; stored = rw (r .read) (placed-fits out 0 (flatten (textsOf q)) (omega arith)); texts = rw (r .read) (cut-there (textsOf q) (flatten (textsOf q)) out refl h) }
 
   request-back : (y : Requested) → Requests y → requested (length s) (length out) (requests.reading s) ≡ y
   request-back (requested-as.Refused r) u = requested-is (requests.reading s) ∙ unread-back requested-as.Refused requestTell requestNeed (length out) s (requests.reading s) r u
@@ -70,6 +74,17 @@ module _ (s out : List ℕ) where
 
   pub request-told : (y : Requested) → (requested (length s) (length out) (requests.reading s) ≡ y) ↔ Requests y
   request-told y = exactly Requests (requested (length s) (length out) (requests.reading s)) request-tells y (request-back y)
+
+  pub request-no-room : (requested (length s) (length out) (requests.reading s) ≡ requested-as.Refused NoRoom) ↔ TooLong (requests.reading s) (λ q. length (flatten (textsOf q))) (length out)
+  request-no-room = (λ e. ten (requests.reading s) requestNeed (length out) never NoRoom refl (request-told (requested-as.Refused NoRoom) .0 e), λ t. request-told (requested-as.Refused NoRoom) .1 (Unread.no-room t))
+    where
+      neither : InReading NoRoom → ⊥
+      neither (inl e) = apart (cc)
+      neither (inr (inl e)) = apart (cc)
+      neither (inr (inr e)) = apart (cc)
+
+      never : requests.reading s ≡ Got.refused NoRoom → ⊥
+      never e = neither (request-laws.reading-refuses s NoRoom e)
 
 -- up to two texts, and up to one, one behind the other
 two-flat : (ts : List (List ℕ)) → length ts ≤ 2 → flatten ts ≡ getD ts 0 [] ++ getD ts 1 []
@@ -128,7 +143,7 @@ module _ (kind : ℕ) (s out : List ℕ) where
   response-tells = subst Responses (sym (answered-is (responses.reading kind s))) (tells replied.Refused responseTell responseNeed (length out) s Responses (responses.reading kind s) response-ends (λ r u. u) read)
     where
       read : (p : Response) (n : ℕ) → Reads (responses.reading kind s) s n p → length (flatten (allTexts p)) ≤ length out → Responses (responseTell p n)
-      read p n r h = record { response = p; reads = r; count = refl; state = refl; fits = h; texts = rw (r .read) (cut-there (partsOf p) (flatten (allTexts p)) out (response-flat p (drop n s) (r .read)) h) }
+      read p n r h = record { response = p; reads = r; count = refl; state = refl; fits = h; stored = rw (r .read) (placed-fits out 0 (flatten (allTexts p)) (omega arith)); texts = rw (r .read) (cut-there (partsOf p) (flatten (allTexts p)) out (response-flat p (drop n s) (r .read)) h) }
 
   response-back : (y : Replied) → Responses y → answered (length s) (length out) (responses.reading kind s) ≡ y
   response-back (replied.Refused r) u = answered-is (responses.reading kind s) ∙ unread-back replied.Refused responseTell responseNeed (length out) s (responses.reading kind s) r u
@@ -141,6 +156,18 @@ module _ (kind : ℕ) (s out : List ℕ) where
 
   pub response-told : (y : Replied) → (answered (length s) (length out) (responses.reading kind s) ≡ y) ↔ Responses y
   response-told y = exactly Responses (answered (length s) (length out) (responses.reading kind s)) response-tells y (response-back y)
+
+  pub response-no-room : (answered (length s) (length out) (responses.reading kind s) ≡ replied.Refused NoRoom) ↔ TooLong (responses.reading kind s) (λ p. length (flatten (allTexts p))) (length out)
+  response-no-room = (λ e. ten (responses.reading kind s) responseNeed (length out) never NoRoom refl (response-told (replied.Refused NoRoom) .0 e), λ t. response-told (replied.Refused NoRoom) .1 (Unread.no-room t))
+    where
+      neither : (NoRoom ≡ UnknownInstruction) ⊎ OfFields NoRoom → ⊥
+      neither (inl e) = apart (cc)
+      neither (inr (inl e)) = apart (cc)
+      neither (inr (inr (inl e))) = apart (cc)
+      neither (inr (inr (inr e))) = apart (cc)
+
+      never : responses.reading kind s ≡ Got.refused NoRoom → ⊥
+      never e = neither (reading-refuses kind s NoRoom e)
 
 pub string-short : (s t rest : List ℕ) → strings.reading s ≡ Got.got t rest → length t ≤ length s
 string-short s t rest e = let l = ap length (string-laws.exact s t rest e) ∙ length-append (string t) rest in omega (arith, string-length t)

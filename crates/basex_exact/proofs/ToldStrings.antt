@@ -2,27 +2,29 @@
 use mathlib.Core.Path.{_≡_, refl, sym, ap, subst, _∙_}
 use mathlib.Core.List.{List, [], _∷_, _++_}
 use mathlib.Core.Bool.{Bool}
-use mathlib.Core.Logic.{_↔_}
+use mathlib.Core.Logic.{_↔_, _⊎_, inl, inr}
 use Prim.Native.Nat.{ℕ, _+_, _-_, _≤_, _<_}
 use native.Mathlib.Omega.{arith}
 use lib.ListN.{length, drop, length-drop}
 use Rattle.wire.specs.Fields.{Got}
 use Rattle.wire.specs.declared.Refusal.{Refusal}
+use Rattle.wire.specs.declared.Refusal.the-variants.{MoreBytes, NoRoom, BadEscape}
+use Rattle.wire.proofs.Over.{placed-fits}
 use Rattle.basex_string.specs.declared.StringAt.{StringAt}
 use Rattle.basex_string.specs.declared.StringAt.the-variants.{At, Refused}
 use Rattle.basex_string.specs.Answers.{located, decoded}
 use Rattle.basex_string.specs.Scan.{reading}
-use Rattle.basex_string.proofs.Laws.{next-field}
+use Rattle.basex_string.proofs.Laws.{next-field, refuses}
 use Rattle.basex.specs.Response.{Item, itemBytes}
 use Rattle.basex_response.specs.declared.ItemAt.{ItemAt}
 use Rattle.basex_response.specs.declared.ItemAt.the-variants as item-at
 use Rattle.basex_response.specs.Items.{Next, next, uriLength, textLength, itemAt}
 use Rattle.basex_response.proofs.Sizes.{all-of, behind-at, behind-is}
-use Rattle.basex_exact.specs.Exactly.{Reads, Unread, Located, Decoded, ItemTold}
+use Rattle.basex_exact.specs.Exactly.{Reads, TooLong, Unread, Located, Decoded, ItemTold}
 use Rattle.basex_exact.proofs.Handed.{made}
 use Rattle.basex_exact.proofs.Listed.{next-exact, next-item, next-end}
-use Rattle.basex_exact.proofs.Spare.{exactly}
-use Rattle.basex_exact.proofs.Told.{answer, tells, unread-back, reads-back, text-there}
+use Rattle.basex_exact.proofs.Spare.{apart, exactly}
+use Rattle.basex_exact.proofs.Told.{answer, tells, unread-back, reads-back, ten, text-there}
 
 module _ (b : List ℕ) (at : ℕ) where
   abbrev x : Got (List ℕ)
@@ -53,7 +55,7 @@ module _ (b : List ℕ) (at : ℕ) where
     where
       unread : (r : Refusal) → Unread x none 0 r → x ≡ Got.refused r
       unread r (Unread.refused q e) = e
-      unread r (Unread.no-room t rest e h) = absurd (omega arith)
+      unread r (Unread.no-room t) = let h = t .long in absurd (omega arith)
 
   locates-back : (y : StringAt) → Locates y → located (length b) (reading (drop at b)) ≡ y
   unfolding none
@@ -79,7 +81,7 @@ module _ (b : List ℕ) (at : ℕ) where
     decodes = subst Decodes (sym (decoded-is x)) (tells Refused tell need (length out) b Decodes x ends (λ r u. u) read)
       where
         read : (t : List ℕ) (n : ℕ) → Reads x b n t → to + length t ≤ length out → Decoded b at out to (length t) n
-        read t n r h = record { text = t; reads = r; long = refl; fits = h; there = rw (r .read) (text-there out to t h) }
+        read t n r h = record { text = t; reads = r; long = refl; fits = h; stored = rw (r .read) (placed-fits out to t h); there = rw (r .read) (text-there out to t h) }
 
     decodes-back : (y : StringAt) → Decodes y → decoded (length b) (length out) to (reading (drop at b)) ≡ y
     decodes-back (At len next) d =
@@ -90,6 +92,16 @@ module _ (b : List ℕ) (at : ℕ) where
 
     pub string-decoded : (y : StringAt) → (decoded (length b) (length out) to (reading (drop at b)) ≡ y) ↔ Decodes y
     string-decoded y = exactly Decodes (decoded (length b) (length out) to (reading (drop at b))) decodes y (decodes-back y)
+
+    pub string-no-room : (decoded (length b) (length out) to (reading (drop at b)) ≡ Refused NoRoom) ↔ TooLong (reading (drop at b)) (λ t. to + length t) (length out)
+    string-no-room = (λ e. ten x need (length out) never NoRoom refl (string-decoded (Refused NoRoom) .0 e), λ t. string-decoded (Refused NoRoom) .1 (Unread.no-room t))
+      where
+        neither : (NoRoom ≡ MoreBytes) ⊎ (NoRoom ≡ BadEscape) → ⊥
+        neither (inl e) = apart (cc)
+        neither (inr e) = apart (cc)
+
+        never : x ≡ Got.refused NoRoom → ⊥
+        never e = neither (refuses (drop at b) NoRoom e)
 
 item-some : (i : Item) → 0 < length (itemBytes i)
 unfolding itemBytes

@@ -13,6 +13,7 @@ use Rattle.basex_string.specs.declared.Spelled.the-variants as spelled
 use Rattle.basex_string.specs.declared.StringAt.the-variants as string-at
 use Rattle.basex_string.specs.Answers as decoding
 use Rattle.basex_string.specs.Scan as strings
+use Rattle.basex_string.specs.Strings.{string}
 use Rattle.basex.specs.declared.Found.the-variants.{Known, Unknown}
 use Rattle.basex.specs.declared.Reply.{Reply}
 use Rattle.basex.specs.declared.Reply.the-variants.{Command, Stored, Query, Results, Full}
@@ -113,6 +114,11 @@ pub data EndUnwritten (room at kind : ℕ) (first second : List ℕ) (status : �
 
 -- only published values are written, each as its encoding, and every other call gets the refusal that is due
 pub record WrittenExactly : Type 0 where
+  -- every text is a string
+  pub string-written : (room at : ℕ) (text : List ℕ) (n : ℕ)
+      → (decoding.spelling room at text ≡ spelled.Bytes n) ↔ Fits room at (string text) n
+  pub string-unwritten : (room at : ℕ) (text : List ℕ) (r : Refusal)
+      → (decoding.spelling room at text ≡ spelled.Refused r) ↔ ((r ≡ NoRoom) × (room < at + length (string text)))
   pub request-written : (room kind : ℕ) (a b c d : List ℕ) (n : ℕ)
       → (requesting.written room kind (a ∷ b ∷ c ∷ d ∷ []) ≡ spelled.Bytes n) ↔ ((q : Request) × Means kind (a ∷ b ∷ c ∷ d ∷ []) q × request.Published q × Fits room 0 (request.encode q) n)
   pub request-unwritten : (room kind : ℕ) (a b c d : List ℕ) (r : Refusal)
@@ -137,12 +143,19 @@ pub record Reads {A : Type 0} (x : Got A) (s : List ℕ) (next : ℕ) (a : A) : 
   pub read : x ≡ Got.got a (drop next s)
   pub place : next ≤ length s
 
+-- a reading gives what needs more than so many bytes
+pub record TooLong {A : Type 0} (x : Got A) (need : A → ℕ) (room : ℕ) : Type 0 where
+  pub value : A
+  pub rest : List ℕ
+  pub read : x ≡ Got.got value rest
+  pub long : room < need value
+
 -- the refusal that is due for a call that puts what it reads into an output of so many bytes
 pub data Unread {A : Type 0} (x : Got A) (need : A → ℕ) (room : ℕ) : Refusal → Type 0 where
   -- what reading refuses
   refused : (r : Refusal) → x ≡ Got.refused r → Unread x need room r
   -- "with 10 last": it reads well, and does not fit
-  no-room : (a : A) (rest : List ℕ) → x ≡ Got.got a rest → room < need a → Unread x need room NoRoom
+  no-room : TooLong x need room → Unread x need room NoRoom
 
 -- the string at `at`: how many bytes its text has, and where what follows starts
 pub record Located (b : List ℕ) (at len next : ℕ) : Type 0 where
@@ -156,6 +169,7 @@ pub record Decoded (b : List ℕ) (at : ℕ) (out : List ℕ) (to len next : ℕ
   pub reads : Reads (strings.reading (drop at b)) b next text
   pub long : len ≡ length text
   pub fits : to + len ≤ length out
+  pub stored : decoding.left out to (strings.reading (drop at b)) ≡ over out to text
   pub there : take len (drop to (decoding.left out to (strings.reading (drop at b)))) ≡ text
 
 -- four texts told by their lengths: they stand one behind the other in front of the output
@@ -169,6 +183,7 @@ pub record RequestTold (s out : List ℕ) (kind a b c d n : ℕ) : Type 0 where
   pub reads : Reads (requests.reading s) s n request
   pub named : kind ≡ kindOf request
   pub fits : length (flatten (textsOf request)) ≤ length out
+  pub stored : requests.left out (requests.reading s) ≡ over out 0 (flatten (textsOf request))
   pub texts : Cut (padded (textsOf request)) (requests.left out (requests.reading s)) a b c d
 
 -- the texts of a response as they are told: the first and the second ahead of the status, those of the items together, the error behind it
@@ -182,6 +197,7 @@ pub record ResponseTold (kind : ℕ) (s out : List ℕ) (first second items list
   pub count : items ≡ length (response .items)
   pub state : status ≡ response .status
   pub fits : length (flatten (allTexts response)) ≤ length out
+  pub stored : responses.left out (responses.reading kind s) ≡ over out 0 (flatten (allTexts response))
   pub texts : Cut (partsOf response) (responses.left out (responses.reading kind s)) first second listed error
 
 -- what is told of an item whose bytes stand at `at`: its id, the lengths of its URI and its text, and where what follows starts
@@ -204,14 +220,20 @@ pub record ToldExactly : Type 0 where
       → (decoding.decoded (length b) (length out) to (strings.reading (drop at b)) ≡ string-at.At len next) ↔ Decoded b at out to len next
   pub string-undecoded : (b : List ℕ) (at : ℕ) (out : List ℕ) (to : ℕ) (r : Refusal)
       → (decoding.decoded (length b) (length out) to (strings.reading (drop at b)) ≡ string-at.Refused r) ↔ Unread (strings.reading (drop at b)) (λ t. to + length t) (length out) r
+  pub string-no-room : (b : List ℕ) (at : ℕ) (out : List ℕ) (to : ℕ)
+      → (decoding.decoded (length b) (length out) to (strings.reading (drop at b)) ≡ string-at.Refused NoRoom) ↔ TooLong (strings.reading (drop at b)) (λ t. to + length t) (length out)
   pub request-told : (s out : List ℕ) (kind a b c d n : ℕ)
       → (requests.requested (length s) (length out) (requests.reading s) ≡ requested.Read kind a b c d n) ↔ RequestTold s out kind a b c d n
   pub request-refused : (s out : List ℕ) (r : Refusal)
       → (requests.requested (length s) (length out) (requests.reading s) ≡ requested.Refused r) ↔ Unread (requests.reading s) (λ q. length (flatten (textsOf q))) (length out) r
+  pub request-no-room : (s out : List ℕ)
+      → (requests.requested (length s) (length out) (requests.reading s) ≡ requested.Refused NoRoom) ↔ TooLong (requests.reading s) (λ q. length (flatten (textsOf q))) (length out)
   pub response-told : (kind : ℕ) (s out : List ℕ) (first second items listed status error n : ℕ)
       → (responses.answered (length s) (length out) (responses.reading kind s) ≡ replied.Read first second items listed status error n) ↔ ResponseTold kind s out first second items listed status error n
   pub response-refused : (kind : ℕ) (s out : List ℕ) (r : Refusal)
       → (responses.answered (length s) (length out) (responses.reading kind s) ≡ replied.Refused r) ↔ Unread (responses.reading kind s) (λ p. length (flatten (allTexts p))) (length out) r
+  pub response-no-room : (kind : ℕ) (s out : List ℕ)
+      → (responses.answered (length s) (length out) (responses.reading kind s) ≡ replied.Refused NoRoom) ↔ TooLong (responses.reading kind s) (λ p. length (flatten (allTexts p))) (length out)
   pub item-told : (full : Bool) (s : List ℕ) (at id uri text next : ℕ)
       → (itemAt full at (length s - at) (items.next full (drop at s)) ≡ item-at.Item id uri text next) ↔ ItemTold full s at id uri text next
   -- "items, then 00"
