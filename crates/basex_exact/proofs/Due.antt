@@ -9,7 +9,6 @@ use lib.Dec.{ltb}
 use lib.ListN.{length, take}
 use borrow.Author.Tests.{ltb-true, ltb-false, le-ltb}
 use Rattle.wire.specs.Bytes.{if, over}
-use Rattle.wire.specs.declared.Refusal.{Refusal}
 use Rattle.wire.specs.declared.Refusal.the-variants.{NoEncoding, NoRoom}
 use Rattle.wire.proofs.Over.{placed-fits}
 use Rattle.basex_string.specs.Answers.{spelling}
@@ -30,7 +29,8 @@ use Rattle.basex_request.proofs.Laws.{published-written, writing-exact, wrote-l
 use Rattle.basex_request.proofs.Table.{command-one, command-starts, starts-command}
 use Rattle.basex_response.specs.Writing.{inRoom}
 use Rattle.basex_exact.specs.Exactly.{Fits, Means, Unwritten}
-use Rattle.basex_exact.proofs.Spare.{apart, chosen, exactly, roomed, room-back, no-room-back, spare-found, spare-unused, none-spare}
+use Rattle.basex_exact.proofs.Chosen.{apart, chosen, exactly, roomed, room-back, no-room-back}
+use Rattle.basex_exact.proofs.Spare.{spare-found, spare-unused, none-spare}
 
 module _ (room at : ℕ) (text : List ℕ) where
   abbrev StringDue : Spelled → Type 0
@@ -63,29 +63,24 @@ module _ (room kind : ℕ) (ts : List (List ℕ)) where
       let z : 0 + length (request.encode q) ≡ length (request.encode q) = omega arith in
       meant q m ∙ published-written q p room ∙ rw z refl
 
-  unwritten-back : (r : Refusal) → Unwritten room kind ts r → written room kind ts ≡ Refused r
-  unfolding written flatten
-  unwritten-back r (Unwritten.unknown f) = rw f refl
-  unwritten-back r (Unwritten.spare n reply f s) = rw f (rw (spare-unused ts n s) refl)
-  unwritten-back r (Unwritten.command t m o) = meant (Request.command t) m ∙ rw (starts-command 0x20 refl) (rw o refl)
-  unwritten-back r (Unwritten.no-room q m p h) = no-room-back (written room kind ts) room 0 (request.encode q) (request-means q m p) (omega arith)
-
-  abbrev Written : ℕ → Type 0
-  Written n = (q : Request) × Means kind ts q × request.Published q × Fits room 0 (request.encode q) n
-
-  written-back : (n : ℕ) → Written n → written room kind ts ≡ Bytes n
-  written-back n w = room-back (written room kind ts) room 0 (request.encode (w .0)) (request-means (w .0) (w .1) (w .2)) n (w .3)
-
   abbrev Due : Spelled → Type 0
-  Due (Bytes n) = Written n
+  Due (Bytes n) = (q : Request) × Means kind ts q × request.Published q × Fits room 0 (request.encode q) n
   Due (Refused r) = Unwritten room kind ts r
+
+  request-back : (y : Spelled) → Due y → written room kind ts ≡ y
+  unfolding written flatten
+  request-back (Bytes n) w = room-back (written room kind ts) room 0 (request.encode (w .0)) (request-means (w .0) (w .1) (w .2)) n (w .3)
+  request-back (Refused r) (Unwritten.unknown f) = rw f refl
+  request-back (Refused r) (Unwritten.spare n reply f s) = rw f (rw (spare-unused ts n s) refl)
+  request-back (Refused r) (Unwritten.command t m o) = meant (Request.command t) m ∙ rw (starts-command 0x20 refl) (rw o refl)
+  request-back (Refused r) (Unwritten.no-room q m p h) = no-room-back (written room kind ts) room 0 (request.encode q) (request-means q m p) (omega arith)
 
 module _ (room kind : ℕ) (a b c d : List ℕ) where
   abbrev ts : List (List ℕ)
   ts = a ∷ b ∷ c ∷ d ∷ []
 
   module _ (m : ℕ) (reply : Reply) (found : findOf kind ≡ Known m reply) (u : unused m (a ∷ b ∷ c ∷ d ∷ []) ≡ true) where
-    -- a COMMAND that has no encoding is the only one
+    -- only a COMMAND can have no encoding
     no-encoding : (f : Bool) → isCommand reply ≡ f → encodable (if f (Request.command a) (Request.coded kind (take m ts))) ≡ false → Unwritten room kind ts NoEncoding
     no-encoding false h o = apart (cc)
     no-encoding true h o =
@@ -99,11 +94,8 @@ module _ (room kind : ℕ) (a b c d : List ℕ) where
     -- the request that is meant, from what is written with room enough
     request-due : Due room kind ts (spelled room (requestOf kind m reply ts))
     unfolding written
-    request-due = chosen (Due room kind ts) (encodable q) fits (no-encoding (isCommand reply) refl)
+    request-due = chosen (Due room kind ts) (encodable (requestOf kind m reply ts)) fits (no-encoding (isCommand reply) refl)
       where
-        q : Request
-        q = requestOf kind m reply ts
-
         fits : encodable (requestOf kind m reply ts) ≡ true → Due room kind ts (if (ltb room (length (request.encode (requestOf kind m reply ts)))) (Refused NoRoom) (Bytes (length (request.encode (requestOf kind m reply ts)))))
         fits o =
             let n = length (request.encode (requestOf kind m reply ts)) in
@@ -121,15 +113,12 @@ module _ (room kind : ℕ) (a b c d : List ℕ) where
       by Unknown p = Unwritten.unknown p
       by (Known m reply) p = chosen (Due room kind ts) (unused m ts) (request-due m reply p) (λ u. Unwritten.spare m reply p (spare-found ts m u))
 
-  pub request-written : (n : ℕ) → (written room kind (a ∷ b ∷ c ∷ d ∷ []) ≡ Bytes n) ↔ Written room kind (a ∷ b ∷ c ∷ d ∷ []) n
-  request-written n = exactly (Due room kind ts) (written room kind ts) due (Bytes n) (written-back room kind ts n)
-
-  pub request-unwritten : (r : Refusal) → (written room kind (a ∷ b ∷ c ∷ d ∷ []) ≡ Refused r) ↔ Unwritten room kind (a ∷ b ∷ c ∷ d ∷ []) r
-  request-unwritten r = exactly (Due room kind ts) (written room kind ts) due (Refused r) (unwritten-back room kind ts r)
+  pub request-exactly : (y : Spelled) → (written room kind (a ∷ b ∷ c ∷ d ∷ []) ≡ y) ↔ Due room kind (a ∷ b ∷ c ∷ d ∷ []) y
+  request-exactly y = exactly (Due room kind ts) (written room kind ts) due y (request-back room kind ts y)
 
 -- .. and its encoding stands in the output then
 pub request-there : (out : List ℕ) (kind : ℕ) (ts : List (List ℕ)) (q : Request) → Means kind ts q → request.Published q → length (request.encode q) ≤ length out → left out kind ts (written (length out) kind ts) ≡ over out 0 (request.encode q)
 request-there out kind ts q m p h =
     let n = length (request.encode q) in
     let f : Fits (length out) 0 (request.encode q) n = record { count = refl; within = omega arith } in
-    ap (left out kind ts) (written-back (length out) kind ts n (q, m, p, f)) ∙ wrote-left (length out) kind n ts (q, p, m .named, m .given, refl, h) out ∙ placed-fits out 0 (request.encode q) (f .within)
+    ap (left out kind ts) (request-back (length out) kind ts (Bytes n) (q, m, p, f)) ∙ wrote-left (length out) kind n ts (q, p, m .named, m .given, refl, h) out ∙ placed-fits out 0 (request.encode q) (f .within)

@@ -24,7 +24,8 @@ use Rattle.basex_response.proofs.Fields.{ahead-few, behind-few}
 use Rattle.basex_exact.specs.Calls.{uriOf}
 use Rattle.basex_exact.specs.Exactly.{Spare, Fits, MeansItem, ItemUnwritten, MeansEnd, EndUnwritten}
 use Rattle.basex_exact.proofs.Handed.{made}
-use Rattle.basex_exact.proofs.Spare.{chosen, exactly, roomed, room-back, no-room-back, spare-found, spare-unused, none-spare, taken-given, given-back}
+use Rattle.basex_exact.proofs.Chosen.{chosen, exactly, roomed, room-back, no-room-back}
+use Rattle.basex_exact.proofs.Spare.{spare-found, spare-unused, none-spare, taken-given, given-back}
 
 -- the answer 8
 abbrev Eight : Spelled → Type 0

@@ -5,7 +5,7 @@ use Rattle.basex_request.specs.declared.Requested.the-variants as requested
 use Rattle.basex_response.specs.declared.ItemAt.the-variants as item-at
 use Rattle.basex_response.specs.declared.Replied.the-variants as replied
 use Rattle.basex_exact.specs.Exactly.{WrittenExactly, ToldExactly, InputSuffices, ErrorsExactly}
-use Rattle.basex_exact.proofs.Due.{string-exactly, request-written, request-unwritten, request-there}
+use Rattle.basex_exact.proofs.Due.{string-exactly, request-exactly, request-there}
 use Rattle.basex_exact.proofs.DueParts.{item-exactly, item-there, end-exactly, end-there}
 use Rattle.basex_exact.proofs.Errors.{error-one, error-none}
 use Rattle.basex_exact.proofs.ToldStrings.{string-located, string-decoded, string-no-room, item-told}
@@ -16,8 +16,8 @@ written-exactly =
     record {
       string-written = λ room at text n. string-exactly room at text (spelled.Bytes n);
       string-unwritten = λ room at text r. string-exactly room at text (spelled.Refused r);
-      request-written = request-written;
-      request-unwritten = request-unwritten;
+      request-written = λ room kind a b c d n. request-exactly room kind a b c d (spelled.Bytes n);
+      request-unwritten = λ room kind a b c d r. request-exactly room kind a b c d (spelled.Refused r);
       request-there = request-there;
       item-written = λ room at kind id uri text n. item-exactly room at kind id uri text (spelled.Bytes n);
       item-unwritten = λ room at kind id uri text r. item-exactly room at kind id uri text (spelled.Refused r);

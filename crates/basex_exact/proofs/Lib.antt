@@ -4,6 +4,7 @@ pub mod Handed
 pub mod Wrote
 pub mod Laws
 pub mod Refusals
+pub mod Chosen
 pub mod Spare
 pub mod Due
 pub mod DueParts

@@ -16,7 +16,7 @@ use Rattle.basex.specs.Texts.{lengthAt}
 use Rattle.basex_request.specs.Calls.{padded, cut}
 use Rattle.basex_request.proofs.Parts.{cut-flatten}
 use Rattle.basex_exact.specs.Exactly.{Reads, TooLong, Unread, Cut}
-use Rattle.basex_exact.proofs.Spare.{chosen}
+use Rattle.basex_exact.proofs.Chosen.{chosen}
 
 -- what stands behind bytes that were read starts there
 pub behind-there : (s bytes rest : List ℕ) → s ≡ bytes ++ rest → drop (length s - length rest) s ≡ rest
