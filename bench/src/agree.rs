@@ -4,12 +4,16 @@
 mod cutting;
 mod joining;
 mod reading;
+mod replies;
+mod requests;
+mod responses;
 mod stepping;
 mod strings;
 mod tally;
+mod told;
 mod writing;
 
-use bench::inputs::{inputs, requests, Input};
+use bench::inputs::{inputs, Input};
 use bench::plain::{self, Message};
 use bench::values::{value_of, OptionLists};
 pub use tally::Tally;
@@ -29,7 +33,7 @@ pub fn run() -> Result<Tally, Disagreement> {
             write_again(&input, &message, &mut outputs, &mut tally)?;
         }
     }
-    for request in requests() {
+    for request in bench::inputs::requests() {
         let value = request.value();
         outputs.compare(request.instruction, &value, request.room, &mut tally)?;
     }
@@ -37,6 +41,9 @@ pub fn run() -> Result<Tally, Disagreement> {
     cutting::compare(&mut tally)?;
     joining::compare(&mut tally)?;
     strings::compare(&mut tally)?;
+    requests::compare(&mut tally)?;
+    responses::compare(&mut tally)?;
+    replies::compare(&mut tally)?;
     tally.complete()?;
     Ok(tally)
 }

@@ -5,7 +5,7 @@ pub mod basex;
 pub mod parts;
 
 use crate::library::FIELDS;
-use bench::plain::{self, Body, Message, Session, Side, Value};
+use bench::plain::{self, Body, Message, Pairs, Session, Side, Value};
 
 /// As `library::read`, for a good side and enough numbers.
 #[inline(never)]
@@ -38,6 +38,14 @@ pub fn step(
 #[inline(never)]
 pub fn closed(session: &Session) -> bool {
     session.closed()
+}
+
+/// As `library::option`, for pairs that were read and enough numbers.
+#[inline(never)]
+pub fn option(bytes: &[u8], pairs: &Pairs, k: usize, fields: &mut [u64; 3]) -> bool {
+    let Some((id, value)) = pairs.iter().nth(k) else { return false };
+    *fields = [id.into(), value.as_ptr() as u64 - bytes.as_ptr() as u64, value.len() as u64];
+    true
 }
 
 /// A message as ten numbers: one match, each number stored once.

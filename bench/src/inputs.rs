@@ -2,6 +2,7 @@
 //! Nothing here uses the plain reader or writer: a message is put together by
 //! an encoder of its own. The plain session only tells which may come next.
 
+pub mod basex;
 mod cuts;
 mod damage;
 mod day;

@@ -1,5 +1,6 @@
-//! Sedna messages, sessions, cutting and joining, and BaseX strings in plain, safe Rust, written from
-//! document 01 and from nothing of the library: the other side of every comparison.
+//! Sedna messages, sessions, cutting and joining, and BaseX strings, requests and responses in
+//! plain, safe Rust, written from document 01 and from nothing of the library: the other side of
+//! every comparison.
 
 pub mod basex;
 mod cut;

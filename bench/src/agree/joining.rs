@@ -17,7 +17,7 @@ pub fn compare(tally: &mut Tally) -> Result<(), Disagreement> {
     let mut both = Both::fresh();
     for gathering in gatherings() {
         both.open(gathering.what, gathering.room)?;
-        tally.gathering();
+        tally.gatherings += 1;
         for offer in &gathering.offers {
             both.offer(offer, tally)?;
         }
@@ -89,7 +89,7 @@ impl Both {
                 hex(&input.bytes)
             ));
         }
-        tally.join(answer, plain.is_ok_and(|(_, gathered)| gathered != Gathered::Part));
+        tally.joining.add(plain.map(|(_, gathered)| told(gathered)[0] as u32));
         Ok(())
     }
 }

@@ -30,7 +30,7 @@ pub fn compare(input: &Input, tally: &mut Tally) -> Result<(), Disagreement> {
     if let Ok(Message { body: Body::Options(pairs), .. }) = &plain {
         compare_pairs(input, pairs)?;
     }
-    tally.read(plain.map(|message| message.instruction));
+    tally.reading.add(plain.map(|message| message.instruction));
     Ok(())
 }
 

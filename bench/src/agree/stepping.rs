@@ -25,7 +25,7 @@ pub fn compare(tally: &mut Tally) -> Result<(), Disagreement> {
 /// Offers all of a list to a fresh session.
 fn follow(offers: &[Input], tally: &mut Tally) -> Result<Both, Disagreement> {
     let mut both = Both::fresh()?;
-    tally.session();
+    tally.sessions += 1;
     for input in offers {
         both.offer(input, tally)?;
     }
@@ -77,7 +77,7 @@ impl Both {
             ));
         }
         self.accepted.extend(plain.map(|message| message.instruction));
-        tally.step(plain.map(|message| message.instruction));
+        tally.stepping.add(plain.map(|message| message.instruction));
         Ok(())
     }
 }

@@ -15,11 +15,11 @@ const GUARD: usize = 64;
 pub fn compare(tally: &mut Tally) -> Result<(), Disagreement> {
     for spelling in spellings() {
         let answer = compare_writing(&spelling)?;
-        tally.spell(answer.map(|_| ()));
+        tally.strings_written.add(answer.map(|_| 0));
     }
     for reading in readings() {
         let answer = compare_decoding(&reading)?;
-        tally.decode(answer.map(|_| ()));
+        tally.strings_decoded.add(answer.map(|_| 0));
     }
     too_few_numbers()
 }
@@ -61,6 +61,10 @@ fn decoded_again(text: &[u8]) -> Result<(), Disagreement> {
 
 fn compare_decoding(reading: &Reading) -> Result<Result<Place, u8>, Disagreement> {
     let Reading { bytes: from, at, room, to } = reading;
+    let judged = [bytes::judge(from, *at), runs::judge(from, *at), library::judge(from, *at)];
+    if judged != [judged[0]; 3] {
+        return Err(format!("judging at {at} {}: {judged:?}", hex(from)));
+    }
     same(
         *room,
         [

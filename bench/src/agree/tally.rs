@@ -1,175 +1,127 @@
 //! What has been compared, and whether anything was never met.
 
 use super::Disagreement;
-use bench::inputs::MESSAGES;
+use bench::inputs::{basex, MESSAGES};
 use std::collections::BTreeMap;
 use std::fmt;
 
-/// The refusals that reading, writing, stepping, cutting and joining can give, and those of strings.
-const READING: [u8; 8] = [1, 2, 3, 4, 5, 6, 7, 8];
-const WRITING: [u8; 4] = [2, 8, 10, 11];
-const STEPPING: [u8; 9] = [1, 2, 3, 4, 5, 6, 7, 8, 9];
-const CUTTING: [u8; 4] = [8, 10, 11, 14];
-const JOINING: [u8; 10] = [1, 2, 3, 4, 5, 6, 7, 8, 9, 12];
-const SPELLING: [u8; 1] = [10];
-const DECODING: [u8; 3] = [1, 10, 13];
+/// Calls of one operation: accepted ones by the kind of what was accepted (0 where there is one
+/// kind only), refused ones by number.
+#[derive(Default)]
+pub struct Count {
+    accepted: BTreeMap<u32, usize>,
+    refused: BTreeMap<u8, usize>,
+}
+
+impl Count {
+    pub fn add(&mut self, answer: Result<u32, u8>) {
+        match answer {
+            Ok(kind) => *self.accepted.entry(kind).or_default() += 1,
+            Err(number) => *self.refused.entry(number).or_default() += 1,
+        }
+    }
+
+    fn calls(&self) -> usize {
+        self.accepted.values().chain(self.refused.values()).sum()
+    }
+
+    /// These kinds and these refusals were met, and no others.
+    fn complete(&self, kinds: &[u32], refusals: &[u8]) -> bool {
+        self.accepted.keys().eq(kinds) && self.refused.keys().eq(refusals)
+    }
+}
+
+impl fmt::Display for Count {
+    fn fmt(&self, f: &mut fmt::Formatter) -> fmt::Result {
+        let Self { accepted, refused } = self;
+        write!(f, "{} accepted", accepted.values().sum::<usize>())?;
+        if accepted.len() > 1 {
+            write!(f, " (of {} kinds)", accepted.len())?;
+        }
+        write!(f, ", refused {refused:?}")
+    }
+}
 
 #[derive(Default)]
 pub struct Tally {
-    /// Accepted messages by instruction.
-    accepted: BTreeMap<u32, usize>,
-    /// Refusals by number.
-    read_refused: BTreeMap<u8, usize>,
-    write_refused: BTreeMap<u8, usize>,
-    written: usize,
-    /// Accepted steps by instruction, and refused ones by number.
-    stepped: BTreeMap<u32, usize>,
-    step_refused: BTreeMap<u8, usize>,
-    sessions: usize,
-    cut: usize,
-    cut_refused: BTreeMap<u8, usize>,
-    /// Accepted parts and ends, and how many of them finished a gathering.
-    joined: usize,
-    finished: usize,
-    join_refused: BTreeMap<u8, usize>,
-    gatherings: usize,
-    spelled: usize,
-    spell_refused: BTreeMap<u8, usize>,
-    decoded: usize,
-    decode_refused: BTreeMap<u8, usize>,
+    pub reading: Count,
+    pub writing: Count,
+    pub stepping: Count,
+    pub sessions: usize,
+    pub cutting: Count,
+    pub joining: Count,
+    pub gatherings: usize,
+    pub strings_written: Count,
+    pub strings_decoded: Count,
+    pub requests_read: Count,
+    pub requests_written: Count,
+    pub responses_read: Count,
+    pub items: Count,
+    pub items_written: Count,
+    pub ends_written: Count,
 }
 
 impl Tally {
-    pub fn read(&mut self, answer: Result<u32, u8>) {
-        match answer {
-            Ok(instruction) => *self.accepted.entry(instruction).or_default() += 1,
-            Err(number) => *self.read_refused.entry(number).or_default() += 1,
-        }
-    }
-
-    pub fn write(&mut self, answer: Result<usize, u8>) {
-        match answer {
-            Ok(_) => self.written += 1,
-            Err(number) => *self.write_refused.entry(number).or_default() += 1,
-        }
-    }
-
-    pub fn session(&mut self) {
-        self.sessions += 1;
-    }
-
-    pub fn step(&mut self, answer: Result<u32, u8>) {
-        match answer {
-            Ok(instruction) => *self.stepped.entry(instruction).or_default() += 1,
-            Err(number) => *self.step_refused.entry(number).or_default() += 1,
-        }
-    }
-
-    pub fn cut(&mut self, answer: Result<usize, u8>) {
-        match answer {
-            Ok(_) => self.cut += 1,
-            Err(number) => *self.cut_refused.entry(number).or_default() += 1,
-        }
-    }
-
-    pub fn gathering(&mut self) {
-        self.gatherings += 1;
-    }
-
-    pub fn join(&mut self, answer: Result<usize, u8>, finished: bool) {
-        self.finished += usize::from(finished);
-        match answer {
-            Ok(_) => self.joined += 1,
-            Err(number) => *self.join_refused.entry(number).or_default() += 1,
-        }
-    }
-
-    pub fn spell(&mut self, answer: Result<(), u8>) {
-        match answer {
-            Ok(()) => self.spelled += 1,
-            Err(number) => *self.spell_refused.entry(number).or_default() += 1,
-        }
-    }
-
-    pub fn decode(&mut self, answer: Result<(), u8>) {
-        match answer {
-            Ok(()) => self.decoded += 1,
-            Err(number) => *self.decode_refused.entry(number).or_default() += 1,
-        }
-    }
-
-    /// Every message accepted and every refusal met, or the comparison says less
-    /// than it seems to.
+    /// Every kind accepted and every refusal met, or the comparison says less than it seems to.
     pub fn complete(&self) -> Result<(), Disagreement> {
-        let messages = MESSAGES.iter().all(|m| self.accepted.contains_key(&m.0));
-        let reading = READING.iter().all(|n| self.read_refused.contains_key(n));
-        let writing = WRITING.iter().all(|n| self.write_refused.contains_key(n));
-        let steps = MESSAGES.iter().all(|m| self.stepped.contains_key(&m.0));
-        let stepping = STEPPING.iter().all(|n| self.step_refused.contains_key(n));
-        let cutting = CUTTING.iter().all(|n| self.cut_refused.contains_key(n));
-        let joining = JOINING.iter().all(|n| self.join_refused.contains_key(n));
-        let strings = SPELLING.iter().all(|n| self.spell_refused.contains_key(n))
-            && DECODING.iter().all(|n| self.decode_refused.contains_key(n));
-        if messages && reading && writing && steps && stepping && cutting && joining && strings {
-            Ok(())
-        } else {
-            Err(format!("a message or a refusal was never met\n{self}"))
+        let messages = MESSAGES.map(|message| message.0);
+        let kinds = basex::KINDS.map(|row| row.0.into());
+        let ids: Vec<_> = (7..=15).chain(32..=83).collect();
+        // The end of the items is told as id 0.
+        let ids_and_end = [&[0], &ids[..]].concat();
+        let complete = [
+            self.reading.complete(&messages, &[1, 2, 3, 4, 5, 6, 7, 8]),
+            self.writing.complete(&messages, &[2, 8, 10, 11]),
+            self.stepping.complete(&messages, &[1, 2, 3, 4, 5, 6, 7, 8, 9]),
+            self.cutting.complete(&[0], &[8, 10, 11, 14]),
+            // Parts, and the ends of three kinds of gathering.
+            self.joining.complete(&[0, 1, 2, 3], &[1, 2, 3, 4, 5, 6, 7, 8, 9, 12]),
+            self.strings_written.complete(&[0], &[10]),
+            self.strings_decoded.complete(&[0], &[1, 10, 13]),
+            self.requests_read.complete(&kinds, &[1, 2, 10, 13]),
+            self.requests_written.complete(&kinds, &[2, 8, 10, 11]),
+            self.responses_read.complete(&kinds, &[1, 2, 8, 10, 13]),
+            self.items.complete(&ids_and_end, &[1, 8, 13]),
+            self.items_written.complete(&ids, &[2, 8, 10]),
+            self.ends_written.complete(&kinds, &[2, 8, 10]),
+        ];
+        match complete.iter().all(|&complete| complete) {
+            true => Ok(()),
+            false => Err(format!("a kind or a refusal was never met: {complete:?}\n{self}")),
         }
     }
 
-    fn show_steps(&self, f: &mut fmt::Formatter) -> fmt::Result {
-        let accepted: usize = self.stepped.values().sum();
-        let refused: usize = self.step_refused.values().sum();
-        writeln!(f, "agree: {} offers to {} sessions", accepted + refused, self.sessions)?;
-        write!(
-            f,
-            "  stepping: {accepted} accepted ({} instructions), refused {:?}",
-            self.stepped.len(),
-            self.step_refused
-        )
-    }
-
-    fn show_parts(&self, f: &mut fmt::Formatter) -> fmt::Result {
-        let cut_refused: usize = self.cut_refused.values().sum();
-        let join_refused: usize = self.join_refused.values().sum();
-        let (cut, joined) = (self.cut + cut_refused, self.joined + join_refused);
-        writeln!(f, "agree: {cut} parts cut, {joined} messages to {} gatherings", self.gatherings)?;
-        writeln!(f, "  cutting: {} accepted, refused {:?}", self.cut, self.cut_refused)?;
-        write!(
-            f,
-            "  joining: {} accepted ({} finished), refused {:?}",
-            self.joined, self.finished, self.join_refused
-        )
-    }
-
-    fn show_strings(&self, f: &mut fmt::Formatter) -> fmt::Result {
-        let spell_refused: usize = self.spell_refused.values().sum();
-        let decode_refused: usize = self.decode_refused.values().sum();
-        let (spelled, decoded) = (self.spelled + spell_refused, self.decoded + decode_refused);
-        writeln!(f, "agree: {spelled} strings written, {decoded} decoded")?;
-        writeln!(f, "  writing: {} accepted, refused {:?}", self.spelled, self.spell_refused)?;
-        write!(f, "  decoding: {} accepted, refused {:?}", self.decoded, self.decode_refused)
+    fn show_basex(&self, f: &mut fmt::Formatter) -> fmt::Result {
+        let [a, b] = [&self.strings_written, &self.strings_decoded].map(Count::calls);
+        writeln!(f, "agree: {a} strings written, {b} decoded")?;
+        writeln!(f, "  writing: {}", self.strings_written)?;
+        writeln!(f, "  decoding: {}", self.strings_decoded)?;
+        let [a, b] = [&self.requests_read, &self.requests_written].map(Count::calls);
+        writeln!(f, "agree: {a} requests read, {b} written")?;
+        writeln!(f, "  reading: {}", self.requests_read)?;
+        writeln!(f, "  writing: {}", self.requests_written)?;
+        let counts = [&self.responses_read, &self.items, &self.items_written, &self.ends_written];
+        let [a, b, c, d] = counts.map(Count::calls);
+        writeln!(f, "agree: {a} responses and {b} items read, {c} items and {d} ends written")?;
+        writeln!(f, "  reading: {}", self.responses_read)?;
+        writeln!(f, "  walking: {}", self.items)?;
+        writeln!(f, "  writing items: {}", self.items_written)?;
+        write!(f, "  writing ends: {}", self.ends_written)
     }
 }
 
 impl fmt::Display for Tally {
     fn fmt(&self, f: &mut fmt::Formatter) -> fmt::Result {
-        let accepted: usize = self.accepted.values().sum();
-        let read_refused: usize = self.read_refused.values().sum();
-        let write_refused: usize = self.write_refused.values().sum();
-        let (read, written) = (accepted + read_refused, self.written + write_refused);
-        writeln!(f, "agree: {read} inputs read, {written} written")?;
-        writeln!(
-            f,
-            "  reading: {accepted} accepted ({} instructions), refused {:?}",
-            self.accepted.len(),
-            self.read_refused
-        )?;
-        writeln!(f, "  writing: {} accepted, refused {:?}", self.written, self.write_refused)?;
-        self.show_steps(f)?;
-        writeln!(f)?;
-        self.show_parts(f)?;
-        writeln!(f)?;
-        self.show_strings(f)
+        let counts = [&self.reading, &self.writing, &self.stepping, &self.cutting, &self.joining];
+        let [a, b, c, d, e] = counts.map(Count::calls);
+        writeln!(f, "agree: {a} inputs read, {b} written")?;
+        writeln!(f, "  reading: {}", self.reading)?;
+        writeln!(f, "  writing: {}", self.writing)?;
+        writeln!(f, "agree: {c} offers to {} sessions", self.sessions)?;
+        writeln!(f, "  stepping: {}", self.stepping)?;
+        writeln!(f, "agree: {d} parts cut, {e} messages to {} gatherings", self.gatherings)?;
+        writeln!(f, "  cutting: {}", self.cutting)?;
+        writeln!(f, "  joining: {}", self.joining)?;
+        self.show_basex(f)
     }
 }

@@ -34,7 +34,7 @@ impl Outputs {
             |out| library::write(out, instruction, value),
             || format!("writing {instruction}: {}", show(value)),
         )?;
-        tally.write(answer);
+        tally.writing.add(answer.map(|_| instruction));
         Ok(())
     }
 

@@ -78,7 +78,7 @@ pub fn readings() -> impl Iterator<Item = Reading> {
     })
 }
 
-fn drawn(rng: &mut Rng) -> Vec<u8> {
+pub(super) fn drawn(rng: &mut Rng) -> Vec<u8> {
     let longest = rng.pick(&[4, 20, 40, 150, 600]);
     let edge = rng.pick(&EDGES);
     let any = rng.between(0, longest);
@@ -88,7 +88,7 @@ fn drawn(rng: &mut Rng) -> Vec<u8> {
 }
 
 /// A text in which one of `density` bytes is 00 or FF, or none is.
-fn text(rng: &mut Rng, length: usize, density: usize) -> Vec<u8> {
+pub(super) fn text(rng: &mut Rng, length: usize, density: usize) -> Vec<u8> {
     let specials = rng.pick(&[&[0][..], &[0xFF], &[0, 0xFF]]);
     let byte = |_| {
         if density > 0 && rng.one_in(density) {
@@ -100,7 +100,7 @@ fn text(rng: &mut Rng, length: usize, density: usize) -> Vec<u8> {
     (0..length).map(byte).collect()
 }
 
-fn spell(text: &[u8]) -> Vec<u8> {
+pub(super) fn spell(text: &[u8]) -> Vec<u8> {
     let mut string = Vec::new();
     for &byte in text {
         if byte == 0 || byte == 0xFF {
@@ -113,13 +113,13 @@ fn spell(text: &[u8]) -> Vec<u8> {
 }
 
 /// Bytes of which many are 00 or FF.
-fn noise(rng: &mut Rng, length: usize) -> Vec<u8> {
+pub(super) fn noise(rng: &mut Rng, length: usize) -> Vec<u8> {
     let any = rng.bytes(length);
     any.into_iter().map(|byte| rng.pick(&[byte, byte, 0, 0xFF])).collect()
 }
 
 /// One change, though not every draw is one.
-fn damage(rng: &mut Rng, string: &mut Vec<u8>) {
+pub(super) fn damage(rng: &mut Rng, string: &mut Vec<u8>) {
     let place = rng.below(string.len().max(1));
     let any = rng.byte();
     let byte = rng.pick(&[0, 0xFF, 1, 0xFE, any]);

@@ -1,9 +1,15 @@
-//! BaseX strings. An answer is 0 or a refusal; counts and places are told as numbers.
+//! BaseX. An answer is 0 or a refusal; counts and places are told as numbers. Strings stand here.
+
+mod requests;
+mod responses;
+
+pub use requests::{read_request, write_request, REQUEST};
+pub use responses::{item, read_response, write_end, write_item, ITEM, RESPONSE};
 
 use super::answer;
 use bench::plain::basex::Place;
 
-/// How many numbers are told of a string that was written, and of one that was decoded.
+/// How many numbers are told of what was written, and of a string that was judged or decoded.
 pub const WRITTEN: usize = 1;
 pub const DECODED: usize = 2;
 
@@ -13,6 +19,9 @@ extern "C" {
     fn kdr_basex_write_string(
         out: *mut u8, out_len: usize, at: usize, text: *const u8, text_len: usize,
         told: *mut u64, told_len: usize,
+    ) -> u64;
+    fn kdr_basex_string_at(
+        bytes: *const u8, len: usize, at: usize, told: *mut u64, told_len: usize,
     ) -> u64;
     fn kdr_basex_decode(
         bytes: *const u8, len: usize, at: usize, out: *mut u8, out_len: usize, to: usize,
@@ -43,6 +52,18 @@ pub fn write_string(out: &mut [u8], at: usize, text: &[u8]) -> Result<usize, u8>
     let mut told = [0; WRITTEN];
     spell(out, at, text, &mut told)?;
     Ok(told[0] as usize)
+}
+
+/// The string at `at`, of which nothing is stored.
+#[rustfmt::skip]
+pub fn judge(bytes: &[u8], at: usize) -> Result<Place, u8> {
+    let mut told = [0; DECODED];
+    // SAFETY: as in `library::read`.
+    answer(unsafe {
+        kdr_basex_string_at(bytes.as_ptr(), bytes.len(), at, told.as_mut_ptr(), told.len())
+    })?;
+    let [len, next] = told.map(|number| number as usize);
+    Ok(Place { len, next })
 }
 
 /// As `decode`, with the numbers lent; the answer is 0.

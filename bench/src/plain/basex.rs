@@ -1,8 +1,18 @@
-//! BaseX strings, twice: byte by byte, and in runs between the escapes. Both judge a string before
-//! they store a byte of it.
+//! BaseX: strings, twice, byte by byte and in runs between the escapes; and requests and responses,
+//! whose strings are read and written in runs. Everything is judged before a byte of it is stored.
 
 pub mod bytes;
+mod items;
+pub mod kind;
+mod request;
+mod response;
 pub mod runs;
+mod write_response;
+
+pub use items::{has_uri, item, Item};
+pub use request::{read_request, write_request, Request};
+pub use response::{read_response, Response};
+pub use write_response::{write_end, write_item};
 
 use super::refusal::NO_ROOM;
 

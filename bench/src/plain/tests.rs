@@ -3,6 +3,8 @@
 mod cutting;
 mod joining;
 mod reading;
+mod requests;
+mod responses;
 mod strings;
 mod writing;
 

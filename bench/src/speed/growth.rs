@@ -1,5 +1,6 @@
 //! What a step costs as the session grows: a session that goes on and on, timed at several lengths.
 
+use super::rounds::median;
 use crate::library::{self, FIELDS, SESSION};
 use bench::inputs::{endless, Input};
 use std::hint::black_box;
@@ -10,14 +11,14 @@ const USUAL: usize = 1_000;
 const LENGTHS: [usize; 7] = [10, 100, 1_000, 10_000, 100_000, 1_000_000, 10_000_000];
 /// Messages that are stepped for one timing, at least.
 const ENOUGH: usize = 1_000_000;
-const ROUNDS: usize = 5;
+const ROUNDS: usize = 9;
 
-/// Each length, and the time of one step over that in a session of the usual length.
+/// Each length, and the time of one step over that in a session of the usual length, turn by turn.
 pub fn ratios() -> Vec<(usize, f64)> {
     let (start, cycle) = endless();
-    let times = LENGTHS.map(|n| median([(); ROUNDS].map(|()| step_time(&start, &cycle, n))));
-    let usual = times[LENGTHS.iter().position(|&n| n == USUAL).unwrap_or(0)];
-    LENGTHS.iter().zip(times).map(|(&n, time)| (n, time / usual)).collect()
+    let time = |messages| step_time(&start, &cycle, messages);
+    let ratio = |messages| median((0..ROUNDS).map(|_| time(messages) / time(USUAL)).collect());
+    LENGTHS.iter().map(|&messages| (messages, ratio(messages))).collect()
 }
 
 /// Seconds of one step in sessions of so many messages.
@@ -44,9 +45,4 @@ fn session(start: &[Input], cycle: &[Input], messages: usize) -> usize {
         .count();
     assert_eq!(taken, messages, "a message was refused");
     taken
-}
-
-fn median(mut times: [f64; ROUNDS]) -> f64 {
-    times.sort_by(f64::total_cmp);
-    times[ROUNDS / 2]
 }

@@ -1,7 +1,8 @@
 //! Cutting 1 MB into messages that stand one behind the other, and joining them back. Beside the
 //! plain code stands a copy of the text in one piece, to the same place.
 
-use super::rounds;
+use super::rounds::{self, copy};
+use super::table::Row;
 use crate::called;
 use crate::library::parts::{self as library, ASSEMBLY, TOLD};
 use bench::inputs::big_text;
@@ -9,14 +10,22 @@ use bench::plain::{self, Gathered, Gathering, Side, What, BODY_MAX, HEAD};
 use std::cell::RefCell;
 use std::hint::black_box;
 
-/// Times of others over the library's: a copy, the plain code as it is called, and inlined.
-pub type Ratios = [f64; 3];
+pub fn rows() -> Vec<Row> {
+    let works = [
+        ("a statement, 1,000,000 bytes", Work::new(What::Statement)),
+        ("an item up to 3.0, 1,000,000 bytes", Work::new(What::Item)),
+        ("an item of 4.0, 1,000,000 bytes", Work::new(What::TypedItem)),
+    ];
+    let cutting = works.iter().map(|(name, work)| work.cutting(format!("cutting {name}")));
+    let joining = works.iter().map(|(name, work)| work.joining(format!("joining {name}")));
+    cutting.chain(joining).collect()
+}
 
 /// Where the whole is handed over: its length, and a number of its format or class and type.
 type Whole = (u64, u64);
 
 /// A statement or an item that is cut and joined.
-pub struct Work {
+struct Work {
     what: What,
     text: Vec<u8>,
     /// All messages of the cut, an item's end included.
@@ -26,7 +35,7 @@ pub struct Work {
 const MARKS: [u8; 2] = [1, 10];
 
 impl Work {
-    pub fn new(what: What) -> Self {
+    fn new(what: What) -> Self {
         let text = big_text();
         let mut messages = vec![0; text.len() + text.len() / 100 + 2 * (HEAD + BODY_MAX)];
         let mut end = cut(what, &text, &mut messages, plain_part) as usize;
@@ -37,29 +46,28 @@ impl Work {
         Self { what, text, messages }
     }
 
-    pub fn cutting(&self) -> Ratios {
+    fn cutting(&self, name: String) -> Row {
         let Self { what, text, .. } = self;
         // One output for all, so that they do not differ in how it is aligned.
         let out = RefCell::new(vec![0; self.messages.len() + HEAD + BODY_MAX]);
-        let written = cut(*what, text, &mut out.borrow_mut(), library_part);
         let library = || cut(*what, text, &mut out.borrow_mut(), library_part);
-        [
-            rounds::ratio(|| copy(text, &mut out.borrow_mut(), written), library),
-            rounds::ratio(|| cut(*what, text, &mut out.borrow_mut(), called_part), library),
-            rounds::ratio(|| cut(*what, text, &mut out.borrow_mut(), plain_part), library),
-        ]
+        let called = || cut(*what, text, &mut out.borrow_mut(), called_part);
+        let inlined = || cut(*what, text, &mut out.borrow_mut(), plain_part);
+        let ratios = [rounds::ratio(called, library), rounds::ratio(inlined, library)];
+        let copied = rounds::copy_ratio(|| copy(text, &mut out.borrow_mut()), library);
+        Row::ratios(name, ratios, Some(copied))
     }
 
-    pub fn joining(&self) -> Ratios {
+    fn joining(&self, name: String) -> Row {
         let buffer = RefCell::new(vec![0; self.text.len()]);
-        let weight = self.library(&mut buffer.borrow_mut());
-        assert_eq!(*buffer.borrow(), self.text, "what was cut is joined");
         let library = || self.library(&mut buffer.borrow_mut());
-        [
-            rounds::ratio(|| copy(&self.text, &mut buffer.borrow_mut(), weight), library),
-            rounds::ratio(|| self.called(&mut buffer.borrow_mut()), library),
-            rounds::ratio(|| self.inlined(&mut buffer.borrow_mut()), library),
-        ]
+        library();
+        assert_eq!(*buffer.borrow(), self.text, "what was cut is joined");
+        let called = || self.called(&mut buffer.borrow_mut());
+        let inlined = || self.inlined(&mut buffer.borrow_mut());
+        let ratios = [rounds::ratio(called, library), rounds::ratio(inlined, library)];
+        let copied = rounds::copy_ratio(|| copy(&self.text, &mut buffer.borrow_mut()), library);
+        Row::ratios(name, ratios, Some(copied))
     }
 
     fn side(&self) -> Side {
@@ -164,10 +172,4 @@ fn plain_part(what: What, text: &[u8], k: usize, out: &mut [u8]) -> Result<usize
         What::TypedItem => plain::write_typed_item_part(out, MARKS, None, text, k),
         _ => plain::write_item_part(out, text, k),
     }
-}
-
-/// All of the text in one piece; the answer is the one of the work that it stands beside.
-fn copy(text: &[u8], out: &mut [u8], answer: u64) -> u64 {
-    black_box(&mut out[..text.len()]).copy_from_slice(black_box(text));
-    answer
 }

@@ -2,14 +2,19 @@
 //! instruction, count, numbers, and the places and lengths of all parts.
 
 use super::rounds::{self, sum};
+use super::table::Row;
 use crate::called;
 use crate::library::{self, field, FIELDS};
 use bench::inputs::Input;
 use bench::plain::{self, Body, Message, Shape};
 use std::hint::black_box;
 
+pub fn row(name: String, set: &[Input], order: &[usize]) -> Row {
+    Row::ratios(name, [called(set, order), inlined(set, order)], None)
+}
+
 /// Against the plain reader as it is called, told as the same numbers.
-pub fn called(set: &[Input], order: &[usize]) -> f64 {
+fn called(set: &[Input], order: &[usize]) -> f64 {
     // Lent to every call and not cleared in between.
     let (mut plain, mut fields) = ([0; FIELDS], [0; FIELDS]);
     rounds::ratio(
@@ -19,7 +24,7 @@ pub fn called(set: &[Input], order: &[usize]) -> f64 {
 }
 
 /// Against the plain reader as it is inlined where its result is used.
-pub fn inlined(set: &[Input], order: &[usize]) -> f64 {
+fn inlined(set: &[Input], order: &[usize]) -> f64 {
     let mut fields = [0; FIELDS];
     rounds::ratio(
         || sum(order, |k| plain(&set[k])),

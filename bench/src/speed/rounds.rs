@@ -5,27 +5,14 @@ use std::time::{Duration, Instant};
 
 pub const ROUNDS: usize = 41;
 
-/// A timing shorter than this says little.
-const ENOUGH: Duration = Duration::from_millis(3);
+/// A round shorter than this says little.
+const ENOUGH: Duration = Duration::from_millis(6);
 
-/// Medians of the rounds.
-pub struct Timing {
-    /// First time over second time.
-    pub ratio: f64,
-    /// Seconds that one pass takes.
-    pub first: f64,
-    pub second: f64,
-}
-
-pub fn ratio(first: impl FnMut() -> u64, second: impl FnMut() -> u64) -> f64 {
-    timing(first, second).ratio
-}
-
-/// One pass of each answers a sum over its results, the same for both.
-pub fn timing(mut first: impl FnMut() -> u64, mut second: impl FnMut() -> u64) -> Timing {
-    let passes = passes(&mut first);
-    time(passes, &mut second);
-    let mut times = Vec::with_capacity(ROUNDS);
+/// Median of the rounds' ratios, first time over second time. One pass of each answers a sum over
+/// its results, the same for both.
+pub fn ratio(mut first: impl FnMut() -> u64, mut second: impl FnMut() -> u64) -> f64 {
+    let passes = passes(&mut first, &mut second);
+    let mut ratios = Vec::with_capacity(ROUNDS);
     for round in 0..ROUNDS {
         // Whoever comes second may find the caches warmer.
         let (a, b) = if round % 2 == 0 {
@@ -36,26 +23,37 @@ pub fn timing(mut first: impl FnMut() -> u64, mut second: impl FnMut() -> u64) -
             (time(passes, &mut first), b)
         };
         assert_eq!(a.1, b.1, "the two did not do the same work");
-        times.push((a.0.as_secs_f64(), b.0.as_secs_f64()));
+        ratios.push(a.0.as_secs_f64() / b.0.as_secs_f64());
     }
-    let pass = |seconds: f64| seconds / passes as f64;
-    Timing {
-        ratio: median(times.iter().map(|(a, b)| a / b)),
-        first: pass(median(times.iter().map(|(a, _)| *a))),
-        second: pass(median(times.iter().map(|(_, b)| *b))),
-    }
+    median(ratios)
 }
 
-fn median(values: impl Iterator<Item = f64>) -> f64 {
-    let mut values: Vec<_> = values.collect();
+/// A copy's time over that of the work; having no result, the copy is given the work's.
+pub fn copy_ratio(mut copy: impl FnMut(), mut work: impl FnMut() -> u64) -> f64 {
+    let answer = work();
+    ratio(
+        || {
+            copy();
+            answer
+        },
+        work,
+    )
+}
+
+/// One memory move of all of the bytes to the front of the output.
+pub fn copy(bytes: &[u8], out: &mut [u8]) {
+    black_box(&mut out[..bytes.len()]).copy_from_slice(black_box(bytes));
+}
+
+pub fn median(mut values: Vec<f64>) -> f64 {
     values.sort_by(f64::total_cmp);
     values[values.len() / 2]
 }
 
 /// As many passes as take long enough; also the warm-up.
-fn passes(work: &mut impl FnMut() -> u64) -> usize {
+fn passes(first: &mut impl FnMut() -> u64, second: &mut impl FnMut() -> u64) -> usize {
     let mut passes = 1;
-    while time(passes, work).0 < ENOUGH {
+    while time(passes, first).0 + time(passes, second).0 < ENOUGH {
         passes *= 2;
     }
     passes

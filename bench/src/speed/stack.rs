@@ -2,7 +2,7 @@
 //! written over is looked for afterwards, beyond what no call at all writes over. Exact to some tens
 //! of bytes; a call that leaves the far end of its frame unwritten takes more than is seen.
 
-use crate::library::basex;
+use crate::library::basex::{self, REQUEST, RESPONSE};
 use crate::library::parts::{self, ASSEMBLY, TOLD};
 use crate::library::{self, FIELDS, SESSION};
 use bench::plain::Value;
@@ -14,26 +14,33 @@ const PATTERN: u8 = 0xA5;
 /// Not looked at: the frames of the functions here.
 const OWN: usize = 512;
 
-/// Every kind of call, and the bytes of stack that were seen to be written.
-/// On a thread of its own, whose stack is there from the start.
-pub fn uses() -> Vec<(&'static str, usize)> {
+/// A call, and the bytes of stack that were seen to be written.
+type Use = (&'static str, usize);
+
+/// Every kind of call, on a thread of its own, whose stack is there from the start.
+pub fn uses() -> Vec<Use> {
+    let calls = || [messages(), parts(), strings(), requests(), responses()].concat();
     let thread = thread::Builder::new().stack_size(8 * LOOKED_AT).spawn(calls);
     thread.expect("a thread").join().expect("every call is taken")
 }
 
-fn calls() -> Vec<(&'static str, usize)> {
-    let text = vec![b'x'; 10_000];
-    let mut out = vec![0; 20_000];
-    let mut message = vec![0; 10_248];
-    let written = library::write(&mut message, 360, &Value::Text(&text)).unwrap_or(0);
-    let message = &message[..written];
-    let mut fields = [0; FIELDS];
-    let mut session = [0; SESSION];
-    let mut assembly = [0; ASSEMBLY];
-    let mut told = [0; TOLD];
+fn item_part() -> Vec<u8> {
+    let mut message = vec![0; 10_013];
+    let text = [b'x'; 10_000];
+    let written = library::write(&mut message, 360, &Value::Text(&text));
+    assert_eq!(written, Ok(message.len()));
+    message
+}
+
+fn messages() -> Vec<Use> {
+    let message = item_part();
+    let (mut out, text) = (vec![0; message.len()], vec![b'x'; 10_000]);
+    let (mut fields, mut session) = ([0; FIELDS], [0; SESSION]);
     let start = [0, 0, 0, 0x6E, 0, 0, 0, 0];
+    let pair = [0, 0, 0, 1, 0, 0, 0, 0, 1, b'x'];
     vec![
-        ("reading", used(|| library::read(2, message, &mut fields).is_ok())),
+        ("reading", used(|| library::read(2, &message, &mut fields).is_ok())),
+        ("an option", used(|| library::option(&pair, (0, 10), 0, &mut [0; 3]) == 1)),
         ("writing", used(|| library::write(&mut out, 360, &Value::Text(&text)).is_ok())),
         (
             "the step",
@@ -42,18 +49,62 @@ fn calls() -> Vec<(&'static str, usize)> {
                     && library::step(&mut session, 1, &start, &mut fields).is_ok()
             }),
         ),
+    ]
+}
+
+fn parts() -> Vec<Use> {
+    let message = item_part();
+    let (mut out, text) = (vec![0; message.len()], vec![b'x'; 10_000]);
+    let (mut assembly, mut told) = ([0; ASSEMBLY], [0; TOLD]);
+    vec![
         ("cutting", used(|| parts::write_item_part(&mut out, &text, 0).is_ok())),
         (
             "joining",
             used(|| {
                 parts::open(&mut assembly, 2).is_ok()
-                    && parts::join(&mut assembly, &mut out, 2, message, &mut told).is_ok()
+                    && parts::join(&mut assembly, &mut out, 2, &message, &mut told).is_ok()
             }),
         ),
-        ("writing a BaseX string", used(|| basex::write_string(&mut out, 0, &text).is_ok())),
+    ]
+}
+
+fn strings() -> Vec<Use> {
+    let (mut out, text) = (vec![0; 20_000], vec![b'x'; 10_000]);
+    let string = [0x61, 0xFF, 0xFF, 0];
+    vec![
+        ("measuring a string", used(|| basex::string_len(&text) > 0)),
+        ("writing a string", used(|| basex::write_string(&mut out, 0, &text).is_ok())),
+        ("judging a string", used(|| basex::judge(&string, 0).is_ok())),
+        ("decoding a string", used(|| basex::decode(&string, 0, &mut out, 0).is_ok())),
+    ]
+}
+
+fn requests() -> Vec<Use> {
+    let bind = [3, 0x61, 0xFF, 0xFF, 0, 0, 0x62, 0, 0];
+    let (mut out, mut told) = ([0; 99], [0; REQUEST]);
+    let texts: [&[u8]; 4] = [b"a\xFF", b"", b"b", b""];
+    vec![
+        ("reading a request", used(|| basex::read_request(&bind, &mut out, &mut told).is_ok())),
+        ("writing a request", used(|| basex::write_request(&mut out, 3, texts, &mut told).is_ok())),
+    ]
+}
+
+fn responses() -> Vec<Use> {
+    let full = [12, 0x75, 0, 0x61, 0xFF, 0xFF, 0, 0, 1, 0x65, 0];
+    let (mut out, mut told) = ([0; 99], [0; RESPONSE]);
+    vec![
         (
-            "decoding a BaseX string",
-            used(|| basex::decode(&[0x61, 0xFF, 0xFF, 0], 0, &mut out, 0).is_ok()),
+            "reading a response",
+            used(|| basex::read_response(0x1F, &full, &mut out, &mut told).is_ok()),
+        ),
+        ("an item", used(|| basex::item(true, &full, 0, &mut told).is_ok())),
+        (
+            "writing an item",
+            used(|| basex::write_item(&mut out, 0, 0x1F, 12, b"u", b"a\xFF", &mut told).is_ok()),
+        ),
+        (
+            "writing an end",
+            used(|| basex::write_end(&mut out, 0, 0x1F, [b""; 2], 1, b"e", &mut told).is_ok()),
         ),
     ]
 }

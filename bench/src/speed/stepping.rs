@@ -2,24 +2,30 @@
 //! reading; the order is the session's own.
 
 use super::reading::{weigh_fields, weigh_message};
-use super::rounds::{self, Timing};
+use super::rounds;
+use super::table::{grouped, Row};
 use crate::called;
 use crate::library::{self, FIELDS, SESSION};
 use bench::inputs::Input;
 use bench::plain::Session;
 use std::hint::black_box;
 
+pub fn row(day: &[Input]) -> Row {
+    let name = format!("the step, a session of {} messages", grouped(day.len()));
+    Row::ratios(name, [called(day), inlined(day)], None)
+}
+
 /// Against the plain session as it is called, told as the same numbers.
-pub fn called(day: &[Input]) -> Timing {
+fn called(day: &[Input]) -> f64 {
     // Lent to every call and not cleared in between.
     let (mut plain, mut fields) = ([0; FIELDS], [0; FIELDS]);
-    rounds::timing(|| behind(day, &mut plain), || library(day, &mut fields))
+    rounds::ratio(|| behind(day, &mut plain), || library(day, &mut fields))
 }
 
 /// Against the plain session as it is inlined where its result is used.
-pub fn inlined(day: &[Input]) -> Timing {
+fn inlined(day: &[Input]) -> f64 {
     let mut fields = [0; FIELDS];
-    rounds::timing(|| plain(day), || library(day, &mut fields))
+    rounds::ratio(|| plain(day), || library(day, &mut fields))
 }
 
 fn behind(day: &[Input], fields: &mut [u64; FIELDS]) -> u64 {

@@ -1,9 +1,6 @@
 //! Document 01's worked examples, its numbers for cutting, and the slips that it has seen.
 
-#[path = "plain_basex/mod.rs"]
-#[allow(dead_code)]
-mod plain_basex;
-
+use bench::plain::basex::bytes as plain;
 use keddorimp::basex::{read_response, read_string, write_string, Item, Kind};
 use keddorimp::sedna::{
     read, write_statement, write_text, Assembly, Body, Cut, Gathering, Instruction, Joined,
@@ -53,9 +50,10 @@ fn basex_strings() {
     assert_eq!(read_string(&hex("FF 41 00"), &mut out), Err(Refusal::BadEscape));
     assert_eq!(read_string(&hex("FF"), &mut out), Err(Refusal::MoreBytes));
     // The other side of the comparison has to get them right too.
-    assert_eq!(plain_basex::string(&hex("61 00 FF")), hex("61 FF 00 FF FF 00"));
-    assert_eq!(plain_basex::read_string(&hex("FF 41 00")), Err(13));
-    assert_eq!(plain_basex::read_string(&hex("FF")), Err(1));
+    assert_eq!(plain::write_string(&mut out, 0, &hex("61 00 FF")), Ok(6));
+    assert_eq!(out[..], hex("61 FF 00 FF FF 00"));
+    assert_eq!(plain::decode(&hex("FF 41 00"), 0, &mut out, 0), Err(13));
+    assert_eq!(plain::decode(&hex("FF"), 0, &mut out, 0), Err(1));
 }
 
 /// The two payloads of the transcript: `1 C 110 0`, `2 S 100 0`, `closed`.

@@ -27,8 +27,9 @@ pub fn write_string(out: &mut [u8], at: usize, text: &[u8]) -> Result<usize, u8>
     Ok(count)
 }
 
+/// The string at `at`, of which nothing is stored.
 #[inline(always)]
-fn judge(bytes: &[u8], at: usize) -> Result<Place, u8> {
+pub fn judge(bytes: &[u8], at: usize) -> Result<Place, u8> {
     let (mut len, mut i) = (0, at);
     while i < bytes.len() {
         match bytes[i] {

@@ -1,4 +1,5 @@
-//! In runs: a fast search finds the next 00 or FF, and what stands ahead of it is copied in one piece.
+//! In runs: a fast search finds the next 00 or FF, and what stands ahead of it is copied in one
+//! piece.
 
 use super::{part, special, Place, ESCAPE};
 use crate::plain::refusal::{BAD_ESCAPE, MORE_NEEDED};
@@ -47,9 +48,16 @@ pub fn string_len(text: &[u8]) -> usize {
 
 /// The text as a string, from `at` on; the answer is the bytes written.
 #[inline(always)]
-pub fn write_string(out: &mut [u8], at: usize, mut text: &[u8]) -> Result<usize, u8> {
-    let count = string_len(text);
-    let mut out = part(out, at, count)?;
+pub fn write_string(out: &mut [u8], at: usize, text: &[u8]) -> Result<usize, u8> {
+    let out = part(out, at, string_len(text))?;
+    Ok(spell(out, text))
+}
+
+/// The text as a string in front of an output that is known to have the room; the answer is the
+/// bytes written.
+#[inline(always)]
+pub(super) fn spell(mut out: &mut [u8], mut text: &[u8]) -> usize {
+    let room = out.len();
     while let Some((&byte, rest)) = text.split_first() {
         if special(byte) {
             out[0] = ESCAPE;
@@ -64,11 +72,12 @@ pub fn write_string(out: &mut [u8], at: usize, mut text: &[u8]) -> Result<usize,
         }
     }
     out[0] = 0;
-    Ok(count)
+    room - out.len() + 1
 }
 
+/// The string at `at`, of which nothing is stored.
 #[inline(always)]
-fn judge(bytes: &[u8], at: usize) -> Result<Place, u8> {
+pub fn judge(bytes: &[u8], at: usize) -> Result<Place, u8> {
     let (mut len, mut i) = (0, at);
     while i < bytes.len() {
         match bytes[i] {
@@ -95,18 +104,26 @@ fn judge(bytes: &[u8], at: usize) -> Result<Place, u8> {
 #[inline(always)]
 pub fn decode(bytes: &[u8], at: usize, out: &mut [u8], to: usize) -> Result<Place, u8> {
     let place = judge(bytes, at)?;
-    let mut out = part(out, to, place.len)?;
-    let mut bytes = &bytes[at..place.next - 1];
-    while let Some(&byte) = bytes.first() {
-        if byte == ESCAPE {
-            out[0] = bytes[1];
-            (out, bytes) = (&mut out[1..], &bytes[2..]);
-        } else {
-            let (run, rest) = bytes.split_at(run(bytes));
-            let (to, behind) = out.split_at_mut(run.len());
-            to.copy_from_slice(run);
-            (out, bytes) = (behind, rest);
+    store(&bytes[at..], part(out, to, place.len)?);
+    Ok(place)
+}
+
+/// The string in front, which has been judged, decoded to the front of an output that has the room.
+#[inline(always)]
+pub(super) fn store(bytes: &[u8], out: &mut [u8]) -> Place {
+    let (mut i, mut len) = (0, 0);
+    loop {
+        match bytes[i] {
+            0 => return Place { len, next: i + 1 },
+            ESCAPE => {
+                out[len] = bytes[i + 1];
+                (i, len) = (i + 2, len + 1);
+            }
+            _ => {
+                let run = run(&bytes[i..]);
+                out[len..len + run].copy_from_slice(&bytes[i..i + run]);
+                (i, len) = (i + run, len + run);
+            }
         }
     }
-    Ok(place)
 }

@@ -1,8 +1,9 @@
 //! More than a million valid and damaged inputs, given to the crate and to plain Rust: every answer
-//! and every byte of lent memory has to be the same. Sedna's plain side and its inputs are those of
-//! `bench/`; BaseX's are here. The inputs are the same in every run.
+//! and every byte of lent memory has to be the same. The plain side is that of `bench/`, and so are
+//! Sedna's inputs; BaseX's are here. The inputs are the same in every run.
 
 mod cutting;
+mod encoded;
 mod joining;
 mod lent;
 mod reading;
@@ -15,9 +16,6 @@ mod strings;
 mod tally;
 mod texts;
 mod writing;
-
-#[path = "../plain_basex/mod.rs"]
-mod plain_basex;
 
 use std::collections::BTreeSet;
 use std::time::Instant;

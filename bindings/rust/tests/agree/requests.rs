@@ -1,11 +1,11 @@
 //! BaseX requests, read from sound and damaged bytes, and written.
 
+use crate::encoded;
 use crate::lent::{fill, hex, holds, Outputs};
-use crate::plain_basex::request::{self as plain, is_command};
-use crate::plain_basex::{put, NO_ROOM};
 use crate::rng::Rng;
 use crate::tally::Tally;
 use crate::texts::{damage, kind, put_behind, room, text, words};
+use bench::plain::basex::{self as plain, kind::is_command, kind::strings};
 use keddorimp::basex::{read_request, write_request, Kind, Request};
 use keddorimp::Refusal;
 
@@ -22,7 +22,7 @@ pub fn read() -> Tally {
     for k in 0..READ {
         let (kind, texts) = sound(&mut rng);
         // A byte that starts no request has no encoding: it stands alone.
-        let mut bytes = plain::encode(kind, slices(&texts)).unwrap_or(vec![kind]);
+        let mut bytes = encoded::request(kind, slices(&texts)).unwrap_or(vec![kind]);
         put_behind(&mut rng, &mut bytes);
         if k % 2 == 1 {
             damage(&mut rng, &mut bytes);
@@ -50,12 +50,12 @@ pub fn write() -> Tally {
             texts[k] = text(&mut rng);
         }
         let request = Request { kind: Kind(kind), texts: slices(&texts) };
-        let bytes = plain::encode(kind, slices(&texts));
+        let bytes = encoded::request(kind, slices(&texts));
         let room = room(&mut rng, bytes.as_ref().map_or(9, Vec::len));
         let answer = outputs.compare(
             room,
             |out| write_request(out, &request),
-            |out| put(out, 0, &bytes.clone()?),
+            |out| plain::write_request(out, kind, slices(&texts)),
             || format!("{request:?}"),
         );
         tally.count(&answer);
@@ -67,7 +67,7 @@ pub fn write() -> Tally {
 fn sound(rng: &mut Rng) -> (u8, Texts) {
     let kind = kind(rng);
     let mut texts = Texts::default();
-    let taken = plain::strings(kind).unwrap_or(0);
+    let taken = strings(kind).unwrap_or(0);
     texts[..taken].fill_with(|| text(rng));
     if is_command(kind) {
         texts[0].insert(0, kind);
@@ -80,28 +80,18 @@ fn slices(texts: &Texts) -> [&[u8]; 4] {
 }
 
 fn compare(rng: &mut Rng, bytes: &[u8], out: &mut Vec<u8>) -> Result<usize, u8> {
-    let plain = plain::read(bytes);
-    let stored = plain.as_ref().map_or(vec![], |request| request.texts.concat());
-    let room = room(rng, stored.len());
-    let plain = plain.and_then(|read| if stored.len() > room { Err(NO_ROOM) } else { Ok(read) });
+    let stored = |request: &plain::Request| request.texts.map(<[u8]>::len).iter().sum::<usize>();
+    // No text is longer than its string.
+    let mut expected = vec![0; bytes.len()];
+    let room = room(rng, plain::read_request(bytes, &mut expected).as_ref().map_or(0, stored));
+    fill(&mut expected, room);
+    let plain = plain::read_request(bytes, &mut expected[..room]);
     fill(out, room);
     let ours = read_request(bytes, &mut out[..room]).map_err(Refusal::number);
-    let alike = match (&ours, &plain) {
-        (Ok((request, read)), Ok(plain)) => *read == plain.read && same(request, plain),
-        (Err(ours), Err(plain)) => ours == plain,
-        _ => false,
-    };
-    assert!(alike, "into {room} bytes: {ours:?}, plain {plain:?}\n{}", hex(bytes));
-    let stored = if plain.is_ok() { &stored[..] } else { &[] };
-    assert!(holds(out, stored), "into {room} bytes: {}", hex(bytes));
-    plain.map(|request| request.read)
-}
-
-/// The texts that the kind takes, and no others. Every COMMAND is told as the one kind that it is.
-fn same(request: &Request, plain: &plain::Request) -> bool {
-    let (texts, unused) = request.texts.split_at(plain.texts.len());
-    let kind = if is_command(plain.kind) { Kind::COMMAND } else { Kind(plain.kind) };
-    request.kind == kind
-        && texts.iter().eq(plain.texts.iter())
-        && unused.iter().all(|text| text.is_empty())
+    let told = plain
+        .map(|plain::Request { kind, texts, read }| (Request { kind: Kind(kind), texts }, read));
+    assert_eq!(ours, told, "into {room} bytes: {}", hex(bytes));
+    let (answer, stored) = (plain.map(|request| request.read), plain.as_ref().map_or(0, stored));
+    assert!(holds(out, &expected[..stored]), "into {room} bytes: {}", hex(bytes));
+    answer
 }

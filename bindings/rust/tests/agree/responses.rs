@@ -1,11 +1,11 @@
 //! BaseX responses, read knowing the request from sound and damaged bytes, and written item by item.
 
+use crate::encoded;
 use crate::lent::{fill, hex, holds};
-use crate::plain_basex::response::{self as plain, encode_end, encode_item, Parts};
-use crate::plain_basex::{put, NO_ROOM};
 use crate::rng::Rng;
 use crate::tally::Tally;
 use crate::texts::{damage, kind, put_behind, room, text, words};
+use bench::plain::basex::{self as plain, kind::Form};
 use keddorimp::basex::{read_response, End, Item, Kind, Response, ResponseWriter};
 use keddorimp::Refusal;
 
@@ -56,44 +56,61 @@ fn sound(rng: &mut Rng, kind: u8) -> Vec<u8> {
 }
 
 fn compare(rng: &mut Rng, kind: u8, bytes: &[u8], out: &mut Vec<u8>) -> Result<usize, u8> {
-    let plain = plain::read(kind, bytes);
-    let stored = plain.as_ref().map_or(vec![], plain::Response::decoded);
-    let room = room(rng, stored.len());
-    let plain = plain.and_then(|read| if stored.len() > room { Err(NO_ROOM) } else { Ok(read) });
+    let stored = |plain: &plain::Response| {
+        plain.texts.concat().len() + plain.listed.len() + plain.error.len()
+    };
+    // No text is longer than its string.
+    let mut expected = vec![0; bytes.len()];
+    let whole = plain::read_response(kind, bytes, &mut expected);
+    let room = room(rng, whole.as_ref().map_or(0, stored));
+    fill(&mut expected, room);
+    let plain = plain::read_response(kind, bytes, &mut expected[..room]);
     fill(out, room);
     let ours = read_response(Kind(kind), bytes, &mut out[..room]).map_err(Refusal::number);
     let alike = match (&ours, &plain) {
-        (Ok((response, read)), Ok(plain)) => *read == plain.read && same(kind, response, plain),
+        (Ok((response, read)), Ok(plain)) => {
+            *read == plain.read && same(kind, bytes, response, plain)
+        }
         (Err(ours), Err(plain)) => ours == plain,
         _ => false,
     };
     assert!(alike, "to {kind:02X} into {room}: {ours:?}, plain {plain:?}\n{}", hex(bytes));
-    let stored = if plain.is_ok() { &stored[..] } else { &[] };
-    assert!(holds(out, stored), "to {kind:02X} into {room}: {}", hex(bytes));
-    plain.map(|response| response.read)
+    let (answer, stored) = (plain.map(|plain| plain.read), plain.as_ref().map_or(0, stored));
+    assert!(holds(out, &expected[..stored]), "to {kind:02X} into {room}: {}", hex(bytes));
+    answer
 }
 
 /// Texts, items, status and error, and where the error is.
-fn same(kind: u8, response: &Response, plain: &plain::Response) -> bool {
+fn same(kind: u8, bytes: &[u8], response: &Response, plain: &plain::Response) -> bool {
     let End { texts, status, error } = response.end;
-    let (texts, unused) = texts.split_at(plain.texts.len());
-    let items = response.items.clone().map(|Item { id, uri, text }| plain::Item {
-        id,
-        uri: uri.map(<[u8]>::to_vec),
-        text: text.to_vec(),
-    });
+    let form = Form::of(kind).expect("a kind whose response was read");
+    let items = match form {
+        Form::Items { full } => items(full, bytes, plain.listed),
+        _ => vec![],
+    };
+    // "with status 01 the last string is the error", and the others have one behind it.
+    let failure = match form.has_error(1) {
+        true => plain.error,
+        false => plain.texts[form.texts() - 1],
+    };
     response.kind == Kind(kind)
-        && texts.iter().eq(plain.texts.iter())
-        && unused.iter().all(|text| text.is_empty())
-        && response.items.len() == plain.items.len()
-        && items.eq(plain.items.iter().map(clone))
-        && status == plain.status
-        && error == plain.error.as_deref().unwrap_or_default()
-        && response.failure() == plain.failure()
+        && texts == plain.texts
+        && (response.items.len(), items.len()) == (plain.items, plain.items)
+        && response.items.clone().eq(items)
+        && (status, error) == (plain.status, plain.error)
+        && response.failure() == (status == 1).then_some(failure)
 }
 
-fn clone(item: &plain::Item) -> plain::Item {
-    plain::Item { id: item.id, uri: item.uri.clone(), text: item.text.clone() }
+/// The items of a response, their texts taken from the listed ones.
+fn items<'o>(full: bool, bytes: &[u8], mut listed: &'o [u8]) -> Vec<Item<'o>> {
+    let (mut items, mut at) = (vec![], 0);
+    while let Ok(Some(item)) = plain::item(full, bytes, at) {
+        let (uri, rest) = listed.split_at(item.uri.unwrap_or(0));
+        let (text, rest) = rest.split_at(item.text);
+        items.push(Item { id: item.id, uri: item.uri.map(|_| uri), text });
+        (listed, at) = (rest, item.next);
+    }
+    items
 }
 
 pub fn write() -> Tally {
@@ -144,16 +161,16 @@ struct Call {
 impl Call {
     /// A response to a request of the kind, as it is published; the end of one for an unknown kind.
     fn sound(rng: &mut Rng, kind: u8) -> Self {
-        let parts = Parts::of(kind).unwrap_or(Parts::Query);
+        let form = Form::of(kind).unwrap_or(Form::Query);
         let status = rng.pick(&[0, 0, 1]);
-        let items = match parts {
-            Parts::Items(full) => {
+        let items = match form {
+            Form::Items { full } => {
                 (0..rng.pick(&[0, 1, 2, 3, 9])).map(|_| item(rng, full)).collect()
             }
             _ => Vec::new(),
         };
-        let texts = [0, 1].map(|k| if k < parts.texts() { text(rng) } else { vec![] });
-        let error = if parts.has_error(status) { text(rng) } else { vec![] };
+        let texts = [0, 1].map(|k| if k < form.texts() { text(rng) } else { vec![] });
+        let error = if form.has_error(status) { text(rng) } else { vec![] };
         Self { items, texts, status, error }
     }
 
@@ -174,9 +191,9 @@ impl Call {
 
     /// What each call writes; nothing where it is refused.
     fn bytes(&self, kind: u8) -> Vec<Vec<u8>> {
-        let items = self.items.iter().map(|(id, uri, text)| encode_item(kind, *id, uri, text));
+        let items = self.items.iter().map(|(id, uri, text)| encoded::item(kind, *id, uri, text));
         let texts = self.texts.each_ref().map(Vec::as_slice);
-        let end = encode_end(kind, texts, self.status, &self.error);
+        let end = encoded::end(kind, texts, self.status, &self.error);
         items.chain([end]).map(Result::unwrap_or_default).collect()
     }
 
@@ -184,8 +201,7 @@ impl Call {
         let mut writer = ResponseWriter::new(Kind(kind), ours);
         let mut at = 0;
         for (id, uri, text) in &self.items {
-            let bytes = encode_item(kind, *id, uri, text);
-            let expected = bytes.and_then(|bytes| put(plain, at, &bytes));
+            let expected = plain::write_item(plain, at, kind, *id, uri, text);
             // No URI is an empty one, and the other way round.
             let uri = Some(uri.as_slice()).filter(|uri| !uri.is_empty() || *id % 2 == 0);
             let answer = writer.item(&Item { id: *id, uri, text }).map_err(Refusal::number);
@@ -197,8 +213,7 @@ impl Call {
             }
         }
         let texts = self.texts.each_ref().map(Vec::as_slice);
-        let expected = encode_end(kind, texts, self.status, &self.error)
-            .and_then(|bytes| put(plain, at, &bytes));
+        let expected = plain::write_end(plain, at, kind, texts, self.status, &self.error);
         let end = End { texts, status: self.status, error: &self.error };
         let answer = writer.end(&end).map_err(Refusal::number);
         let whole = expected.map(|count| &plain[..at + count]);

@@ -1,10 +1,12 @@
 //! BaseX strings, written, and read from sound and damaged bytes.
 
+use crate::encoded::string;
 use crate::lent::{fill, hex, holds, Outputs};
-use crate::plain_basex as plain;
 use crate::rng::Rng;
 use crate::tally::Tally;
 use crate::texts::{damage, put_behind, room, text, words};
+use bench::plain::basex::{bytes as plain, Place};
+use bench::plain::refusal::NO_ROOM;
 use keddorimp::basex::{measure_string, read_string, string_len, write_string};
 use keddorimp::Refusal;
 
@@ -19,7 +21,7 @@ pub fn run() -> Tally {
     let mut tally = Tally::new("BaseX strings");
     let mut out = Vec::new();
     for k in 0..READ {
-        let mut bytes = plain::string(&text(&mut rng));
+        let mut bytes = string(&text(&mut rng));
         put_behind(&mut rng, &mut bytes);
         if k % 2 == 1 {
             damage(&mut rng, &mut bytes);
@@ -38,28 +40,30 @@ pub fn run() -> Tally {
 }
 
 fn read(rng: &mut Rng, bytes: &[u8], out: &mut Vec<u8>) -> Result<usize, u8> {
-    let plain = plain::read_string(bytes);
-    let length = plain.as_ref().map_or(9, |(text, _)| text.len());
+    // No text is longer than its string.
+    let mut text = vec![0; bytes.len()];
+    let plain = plain::decode(bytes, 0, &mut text, 0).map(|Place { len, next }| (len, next));
     let measured = measure_string(bytes).map_err(Refusal::number);
-    assert_eq!(measured, plain.clone().map(|(text, read)| (text.len(), read)), "{}", hex(bytes));
+    assert_eq!(measured, plain, "{}", hex(bytes));
+    let length = plain.map_or(9, |(length, _)| length);
     let room = room(rng, length);
-    let plain = plain.and_then(|read| if length > room { Err(plain::NO_ROOM) } else { Ok(read) });
+    let plain = plain.and_then(|read| if length > room { Err(NO_ROOM) } else { Ok(read) });
     fill(out, room);
     let ours = read_string(bytes, &mut out[..room]).map_err(Refusal::number);
-    let ours = ours.map(|(text, read)| (text.to_vec(), read));
-    assert_eq!(ours, plain, "into {room} bytes: {}", hex(bytes));
-    let stored = plain.as_ref().map_or(&[][..], |(text, _)| text);
+    let expected = plain.map(|(length, read)| (&text[..length], read));
+    assert_eq!(ours, expected, "into {room} bytes: {}", hex(bytes));
+    let stored = expected.map_or(&[][..], |(text, _)| text);
     assert!(holds(out, stored), "into {room} bytes: {}", hex(bytes));
     plain.map(|(_, read)| read)
 }
 
 fn write(rng: &mut Rng, text: &[u8], outputs: &mut Outputs) -> Result<usize, u8> {
-    let string = plain::string(text);
+    let string = string(text);
     assert_eq!(string_len(text), string.len());
     outputs.compare(
         room(rng, string.len()),
         |out| write_string(out, text),
-        |out| plain::put(out, 0, &string),
+        |out| plain::write_string(out, 0, text),
         || hex(text),
     )
 }

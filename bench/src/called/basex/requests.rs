@@ -1,0 +1,17 @@
+//! Requests, told as the library tells them.
+
+use crate::library::basex::REQUEST;
+use bench::plain::basex as plain;
+
+#[inline(never)]
+pub fn read_request(bytes: &[u8], out: &mut [u8], told: &mut [u64; REQUEST]) -> Result<(), u8> {
+    let plain::Request { kind, texts, read } = plain::read_request(bytes, out)?;
+    let [a, b, c, d] = texts.map(|text| text.len() as u64);
+    *told = [kind.into(), a, b, c, d, read as u64];
+    Ok(())
+}
+
+#[inline(never)]
+pub fn write_request(out: &mut [u8], kind: u8, texts: [&[u8]; 4]) -> Result<usize, u8> {
+    plain::write_request(out, kind, texts)
+}

@@ -1,0 +1,47 @@
+//! Requests.
+
+use super::answer;
+
+/// How many numbers are told of a request that was read: kind, four lengths, bytes read.
+pub const REQUEST: usize = 6;
+
+#[rustfmt::skip]
+extern "C" {
+    fn kdr_basex_read_request(
+        bytes: *const u8, len: usize, out: *mut u8, out_len: usize,
+        told: *mut u64, told_len: usize,
+    ) -> u64;
+    fn kdr_basex_write_request(
+        out: *mut u8, out_len: usize, kind: u8, first: *const u8, first_len: usize,
+        second: *const u8, second_len: usize, third: *const u8, third_len: usize,
+        fourth: *const u8, fourth_len: usize, told: *mut u64, told_len: usize,
+    ) -> u64;
+}
+
+/// The request in front of the bytes, its texts decoded to the front of the output.
+#[rustfmt::skip]
+pub fn read_request(bytes: &[u8], out: &mut [u8], told: &mut [u64]) -> Result<usize, u8> {
+    // SAFETY: as in `library::write`.
+    answer(unsafe {
+        kdr_basex_read_request(
+            bytes.as_ptr(), bytes.len(), out.as_mut_ptr(), out.len(),
+            told.as_mut_ptr(), told.len(),
+        )
+    })
+}
+
+/// A request in front of the output; its bytes are told.
+#[rustfmt::skip]
+pub fn write_request(
+    out: &mut [u8], kind: u8, texts: [&[u8]; 4], told: &mut [u64],
+) -> Result<usize, u8> {
+    let [first, second, third, fourth] = texts;
+    // SAFETY: as in `library::write`.
+    answer(unsafe {
+        kdr_basex_write_request(
+            out.as_mut_ptr(), out.len(), kind, first.as_ptr(), first.len(),
+            second.as_ptr(), second.len(), third.as_ptr(), third.len(),
+            fourth.as_ptr(), fourth.len(), told.as_mut_ptr(), told.len(),
+        )
+    })
+}
