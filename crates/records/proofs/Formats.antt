@@ -1,4 +1,4 @@
--- `records` reads exactly what the format says, and `decimal` spells its number.
+-- `records` reads exactly what the format says.
 use mathlib.Core.Bool.{Bool, true, false}
 use mathlib.Core.List.{List, [], _∷_, _++_, append-assoc}
 use mathlib.Core.Path.{_≡_, refl, sym, ap, subst, _∙_}
@@ -13,11 +13,12 @@ use Rattle.sedna.specs.declared.Side.{Side}
 use Rattle.sedna.specs.declared.Side.the-variants.{Client, Server}
 use Rattle.sedna_exact.proofs.Branches.{apart, either}
 use Rattle.sedna_exact.proofs.Bytes.{bytes-front, bytes-behind}
+use Rattle.records.specs.declared.Head.{Head}
 use Rattle.records.specs.declared.Head.the-variants as head
-use Rattle.records.specs.Format.{littleBytes, kindOf, recordBytes, transcript, Sound, Stops, spelt, Format}
-use Rattle.records.specs.Line.{digit, decimalUpTo}
+use Rattle.records.specs.Format.{littleBytes, kindOf, recordBytes, transcript, Sound, NoRecord, Stops, Format}
 use Rattle.records.specs.Record.{little, sent, headOf, Record, recordOf, Front, behind, front, Records, fromFront, recordsUpTo, records}
 use Rattle.records.proofs.Runs.{shorter, records-front}
+use Rattle.records.proofs.Spelt.{digits-back, digits-all, leading, digits-only}
 
 -- six bytes that spell a length and a kind
 module _ (a b c d e f : ℕ) (s : List ℕ) where
@@ -119,15 +120,30 @@ front-back (a ∷ b ∷ c ∷ d ∷ []) h r rest p = apart (cc)
 front-back (a ∷ b ∷ c ∷ d ∷ e ∷ []) h r rest p = apart (cc)
 front-back (a ∷ b ∷ c ∷ d ∷ e ∷ f ∷ s) h r rest p = six-back a b c d e f s h r rest p
 
+-- where no record can be read, none was written
+never-written : (s : List ℕ) → front s ≡ Front.damaged → (0 < length s) × NoRecord s
+unfolding front
+never-written [] e = apart (cc)
+never-written (b ∷ s) e = (omega arith, λ r more h p. let w = front-written r more h in let q = ap front p in apart (cc))
+
+end-empty : (s : List ℕ) → front s ≡ Front.end → s ≡ []
+unfolding front
+end-empty [] e = refl
+end-empty (b ∷ s) e = by (headOf (b ∷ s)) e
+  where
+    by : (h : Head) → behind (drop 6 (b ∷ s)) h ≡ Front.end → b ∷ s ≡ []
+    by head.Damaged e = apart (cc)
+    by (head.Record side n) e = either (ltb (length (drop 6 (b ∷ s))) n) _ _ e (λ cut p. apart (cc)) (λ whole p. apart (cc))
+
 stops-upTo : (most : ℕ) (s : List ℕ) → length s ≤ most → IsBytes s → Stops s (recordsUpTo most s)
-unfolding recordsUpTo front
-stops-upTo zero [] l h = record { sound = tt; rest = []; split = refl; ends = refl }
+unfolding recordsUpTo
+stops-upTo zero [] l h = record { sound = tt; rest = []; split = refl; whole = λ e. refl; cut = λ e. apart (cc) }
 stops-upTo zero (b ∷ s) l h = absurd (omega arith)
 stops-upTo (suc most) s l h = by (front s) refl (stops-upTo most)
   where
     by : (f : Front) → front s ≡ f → ((rest : List ℕ) → length rest ≤ most → IsBytes rest → Stops rest (recordsUpTo most rest)) → Stops s (fromFront (recordsUpTo most) f)
-    by Front.end e more = record { sound = tt; rest = s; split = refl; ends = e }
-    by Front.damaged e more = record { sound = tt; rest = s; split = refl; ends = e }
+    by Front.end e more = record { sound = tt; rest = s; split = refl; whole = λ q. end-empty s e; cut = λ q. apart (cc) }
+    by Front.damaged e more = record { sound = tt; rest = s; split = refl; whole = λ q. apart (cc); cut = λ q. never-written s e }
     by (Front.sound r rest) e more =
         let w = front-back s h r rest e in
         let k = shorter s r rest e in
@@ -137,31 +153,40 @@ stops-upTo (suc most) s l h = by (front s) refl (stops-upTo most)
           sound = (w .1, t .sound);
           rest = t .rest;
           split = w .0 ∙ ap (λ (l : List ℕ). recordBytes r ++ l) (t .split) ∙ sym (append-assoc (recordBytes r) (transcript (recordsUpTo most rest .sound)) (t .rest));
-          ends = t .ends;
+          whole = t .whole;
+          cut = t .cut;
         }
 
--- digits spelt one behind the other
-spelt-append : (n : ℕ) (s : List ℕ) (c : ℕ) → spelt n (s ++ (c ∷ [])) ≡ spelt n s * 10 + (c - 48)
-spelt-append n [] c = refl
-spelt-append n (x ∷ s) c = spelt-append (n * 10 + (x - 48)) s c
-
-digits-upTo : (most n : ℕ) → n < most → spelt 0 (decimalUpTo most n) ≡ n
-unfolding decimalUpTo
-digits-upTo zero n h = absurd (omega arith)
-digits-upTo (suc most) n h = by (ltb n 10) refl (digits-upTo most (n / 10))
+-- what is left behind the records is their end or the damage
+rest-ends : (d : Bool) (rest : List ℕ) → IsBytes rest → (d ≡ false → rest ≡ []) → (d ≡ true → (0 < length rest) × NoRecord rest) → record { sound = []; damaged = d } ≡ records rest
+unfolding recordsUpTo
+rest-ends false rest h whole cut = rw (whole refl)
+rest-ends true rest h whole cut = sym (records-front rest ∙ ap (fromFront records) (by (front rest) refl))
   where
-    by : (t : Bool) → ltb n 10 ≡ t → (n / 10 < most → spelt 0 (decimalUpTo most (n / 10)) ≡ n / 10)
-        → spelt 0 (if t (digit n ∷ []) (decimalUpTo most (n / 10) ++ (digit (n % 10) ∷ []))) ≡ n
-    by true e more = omega arith
-    by false e more =
-        let l = ltb-false n 10 e in
-        let a = spelt-append 0 (decimalUpTo most (n / 10)) (digit (n % 10)) in
-        let b = more (omega arith) in
-        omega arith
+    by : (f : Front) → front rest ≡ f → f ≡ Front.damaged
+    by Front.end e = let z = ap length (end-empty rest e) in absurd (omega (arith, cut refl .0))
+    by Front.damaged e = refl
+    by (Front.sound r more) e = let w = front-back rest h r more e in absurd (cut refl .1 r more (w .1) (w .0))
+
+read-only : (rs : List Record) (d : Bool) (rest : List ℕ) → Sound rs → record { sound = []; damaged = d } ≡ records rest → record { sound = rs; damaged = d } ≡ records (transcript rs ++ rest)
+read-only [] d rest h e = e
+read-only (r ∷ rs) d rest h e =
+    sym (records-front (transcript (r ∷ rs) ++ rest)
+    ∙ ap (λ (l : List ℕ). fromFront records (front l)) (append-assoc (recordBytes r) (transcript rs) rest)
+    ∙ ap (fromFront records) (front-written r (transcript rs ++ rest) (h .0))
+    ∙ ap (λ (m : Records). record { sound = r ∷ m .sound; damaged = m .damaged }) (sym (read-only rs d rest (h .1) e)))
+
+stopped : (s : List ℕ) → IsBytes s → (rs : Records) → Stops s rs → rs ≡ records s
+stopped s h rs t =
+    let b : IsBytes (t .rest) = bytes-behind (transcript (rs .sound)) (t .rest) (subst IsBytes (t .split) h) in
+    rw (t .split) (read-only (rs .sound) (rs .damaged) (t .rest) (t .sound) (rest-ends (rs .damaged) (t .rest) b (t .whole) (t .cut)))
 
 pub format : Format
 format = record {
   read-written = written;
   stops = λ s h. stops-upTo (length s) s (omega arith) h;
-  digits-back = λ n. digits-upTo (suc n) n (omega arith);
+  stops-only = stopped;
+  digits-back = digits-back;
+  digits = λ n. (digits-all n, leading n);
+  digits-only = digits-only;
 }

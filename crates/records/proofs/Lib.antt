@@ -8,3 +8,4 @@ pub mod Little
 pub mod Replays
 pub mod Rooms
 pub mod Runs
+pub mod Spelt

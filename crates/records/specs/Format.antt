@@ -1,14 +1,14 @@
 -- The same sentence of document 01 written out, with no reader in it; and what it is for `records` and `decimal` to be right.
-use mathlib.Core.Bool.{Bool, true, false}
+use mathlib.Core.Bool.{true, false}
 use mathlib.Core.List.{List, [], _∷_, _++_}
 use mathlib.Core.Path.{_≡_}
-use Prim.Native.Nat.{ℕ, zero, suc, _+_, _-_, _*_, _/_, _%_, _≤_}
+use Prim.Native.Nat.{ℕ, zero, suc, _+_, _-_, _*_, _/_, _%_, _≤_, _<_}
 use lib.ListN.{length}
 use Rattle.wire.specs.Bytes.{IsBytes}
 use Rattle.sedna.specs.declared.Side.{Side}
 use Rattle.sedna.specs.declared.Side.the-variants.{Client, Server}
 use Rattle.records.specs.Line.{decimal}
-use Rattle.records.specs.Record.{Record, Front, front, Records, records}
+use Rattle.records.specs.Record.{Record, Records, records}
 
 -- a number in so many bytes, "little-endian"
 abbrev pub littleBytes : ℕ → ℕ → List ℕ
@@ -34,22 +34,33 @@ abbrev pub Sound : List Record → Type 0
 Sound [] = Unit {0}
 Sound (r ∷ rs) = (length (r .payload) ≤ 10248) × Sound rs
 
--- how the input goes on behind its records
-abbrev pub ending : Bool → Front
-ending true = Front.damaged
-ending false = Front.end
+-- no sound record stands in front
+abbrev pub NoRecord : List ℕ → Type 0
+NoRecord s = (r : Record) (more : List ℕ) → length (r .payload) ≤ 10248 → ¬ (s ≡ recordBytes r ++ more)
 
--- an input is its records, written out, and behind them its end or what is damaged
+-- an input is its records, written out; behind them nothing is left, or, where it is damaged, something with no sound record in front
 pub record Stops (s : List ℕ) (rs : Records) : Type 0 where
   pub sound : Sound (rs .sound)
   pub rest : List ℕ
   pub split : s ≡ transcript (rs .sound) ++ rest
-  pub ends : front rest ≡ ending (rs .damaged)
+  pub whole : rs .damaged ≡ false → rest ≡ []
+  pub cut : rs .damaged ≡ true → (0 < length rest) × NoRecord rest
 
 -- the number that digits spell behind those that spell n
 abbrev pub spelt : ℕ → List ℕ → ℕ
 spelt n [] = n
 spelt n (c ∷ s) = spelt (n * 10 + (c - 48)) s
+
+-- characters '0' to '9'
+abbrev pub Digits : List ℕ → Type 0
+Digits [] = Unit {0}
+Digits (c ∷ s) = ((48 ≤ c) × (c ≤ 57)) × Digits s
+
+-- at least one, and a '0' in front stands alone
+abbrev pub Leading : List ℕ → Type 0
+Leading [] = ⊥
+Leading (c ∷ []) = Unit {0}
+Leading (c ∷ d ∷ s) = ¬ (c ≡ 48)
 
 -- the bytes of a slice are bytes: `IsBytes s` is no condition on a caller
 pub record Format : Type 0 where
@@ -57,5 +68,11 @@ pub record Format : Type 0 where
   pub read-written : (rs : List Record) → Sound rs → records (transcript rs) ≡ record { sound = rs; damaged = false }
   -- and what is read was written so, up to the end or the damage
   pub stops : (s : List ℕ) → IsBytes s → Stops s (records s)
+  -- nothing else can be read there
+  pub stops-only : (s : List ℕ) → IsBytes s → (rs : Records) → Stops s rs → rs ≡ records s
   -- the digits of a number spell it
   pub digits-back : (n : ℕ) → spelt 0 (decimal n) ≡ n
+  -- they are digits, with no zero ahead of others
+  pub digits : (n : ℕ) → Digits (decimal n) × Leading (decimal n)
+  -- no other such digits spell it
+  pub digits-only : (s : List ℕ) → Digits s → Leading s → s ≡ decimal (spelt 0 s)
