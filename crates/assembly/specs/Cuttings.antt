@@ -4,6 +4,7 @@ use mathlib.Core.List.{List, [], _∷_, _++_, map}
 use mathlib.Core.Path.{_≡_}
 use Prim.Native.Nat.{ℕ, _≤_, _<_}
 use lib.ListN.{length, take, drop}
+use Rattle.wire.specs.Every.{Every}
 use Rattle.sedna.specs.Allowed.{allowed}
 use Rattle.sedna.specs.Message.{Url, Body, Message, message}
 use Rattle.sedna.specs.Names.{Execute, ExecuteLong, LongQueryEnd, ItemPart, ItemStart, ItemEnd, ResultEnd}
@@ -82,8 +83,7 @@ values (Cutting.typed-item class kind url t ts e) = class ∷ kind ∷ []
 
 -- each message has allowed values: "later ones are checked for 0 or 1 and otherwise ignored"
 abbrev pub AllAllowed : List Message → Type 0
-AllAllowed [] = Unit {0}
-AllAllowed (m ∷ ms) = (allowed (m .body) ≡ true) × AllAllowed ms
+AllAllowed = Every (λ (m : Message). allowed (m .body) ≡ true)
 
 -- the buffer with s over its front
 abbrev pub fronted : List ℕ → List ℕ → List ℕ

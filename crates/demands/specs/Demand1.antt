@@ -14,6 +14,7 @@ use Prim.Native.Nat.{ℕ, _≤_}
 use lib.Dec.{ltb}
 use lib.ListN.{length, drop, getElem?}
 use Rattle.wire.specs.Bytes.{IsBytes, if, placed}
+use Rattle.wire.specs.Every.{Every}
 use Rattle.wire.specs.Fields.{Got}
 use Rattle.wire.specs.declared.Refusal.{Refusal}
 use Rattle.wire.specs.declared.Refusal.the-variants.{MoreBytes, FieldCut, BytesLeftOver, ValueNotAllowed, NoRoom, NoEncoding, NoSuchPart}
@@ -32,7 +33,6 @@ use Rattle.sedna_exact.specs.Unwritten.{Unwritten}
 use Rattle.session.specs.declared.Session.{Session}
 use Rattle.session.specs.Step.{stepped}
 use Rattle.session_cell.specs.Lent.{lentAnswer, lentLeft}
-use Rattle.fragments.specs.Every.{Every}
 use Rattle.fragments.specs.Part.{partWritten, partLeft}
 use Rattle.assembly.specs.declared.Assembly.{Assembly}
 use Rattle.assembly.specs.Answers.{Reply, reply}

@@ -10,6 +10,7 @@ use Prim.Native.Nat.{ℕ, suc, _+_, _-_, _≤_, _<_}
 use lib.Dec.{T, leb}
 use lib.ListN.{length, take, drop, getElem?}
 use Rattle.wire.specs.Bytes.{IsBytes, if, over}
+use Rattle.wire.specs.Every.{Every}
 use Rattle.wire.specs.Fields.{Got}
 use Rattle.wire.specs.declared.Refusal.the-variants.{NoEncoding}
 use Rattle.sedna.specs.declared.Side.{Side}
@@ -35,7 +36,6 @@ use Rattle.grammar.specs.Layout.{flatRequest, flatItem}
 use Rattle.grammar.specs.Sent.{Version, from, upTo}
 use Rattle.fragments.specs.Cut.{startRoom, cutStatement, cutItem, cutTypedItem}
 use Rattle.fragments.specs.declared.Parts.the-variants as counted
-use Rattle.fragments.specs.Every.{Every}
 use Rattle.fragments.specs.Part.{statementParts, itemPartsFrom, urlParts, partWritten, partLeft}
 use Rattle.assembly.specs.declared.Open.the-variants as gathering
 use Rattle.assembly.specs.Cuttings.{Cutting, Ending, ending, messages, AllAllowed, Joins}

@@ -1,3 +1,2 @@
 pub mod Cut
-pub mod Every
 pub mod Part

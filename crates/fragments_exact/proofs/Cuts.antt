@@ -21,7 +21,7 @@ use Rattle.grammar.specs.Grammar.{Plus, plus, Request, execute, execute-long, W
 use Rattle.grammar.specs.Layout.{one, each, flatRequest, flatWithin, flatItem}
 use Rattle.session_exact.proofs.Published.{published-sent}
 use Rattle.fragments.specs.Cut.{statementRoom, partRoom, startRoom, pieces, cutStatement, itemParts, cutItem, cutTypedItem}
-use Rattle.fragments.specs.Every.{Every}
+use Rattle.wire.specs.Every.{Every}
 use Rattle.fragments.specs.Part.{pieceCount}
 use Rattle.fragments.proofs.Cuts.{cut-sole, cut-long}
 use Rattle.fragments.proofs.Joined.{pieces-sized}

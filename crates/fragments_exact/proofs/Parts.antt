@@ -9,6 +9,7 @@ use lib.Dec.{ltb}
 use lib.ListN.{length, getElem?}
 use borrow.Author.Tests.{ltb-true, ltb-false}
 use Rattle.wire.specs.Bytes.{IsBytes, if}
+use Rattle.wire.specs.Every.{Every}
 use Rattle.wire.specs.declared.Refusal.the-variants.{NoSuchPart, NoRoom}
 use Rattle.sedna.specs.declared.Side.{Side}
 use Rattle.sedna.specs.Encode.{encode}
@@ -25,7 +26,6 @@ use Rattle.sedna_exact.proofs.Branches.{apart}
 use Rattle.sedna_exact.proofs.Meaning.{meaning-located}
 use Rattle.sedna_exact.proofs.Unwritten.{unwritten-exact}
 use Rattle.sedna_exact.proofs.Written.{written-exact, read-written}
-use Rattle.fragments.specs.Every.{Every}
 use Rattle.fragments.specs.Part.{writtenOf, partWritten, partLeft}
 
 -- beyond the last there is none
