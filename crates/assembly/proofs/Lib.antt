@@ -1,5 +1,8 @@
 pub mod Cuttings
+pub mod Forms
+pub mod Offered
 pub mod Order
+pub mod Places
 pub mod Readings
 pub mod Refusals
 pub mod Runs

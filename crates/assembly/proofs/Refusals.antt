@@ -27,6 +27,7 @@ use Rattle.assembly.specs.Joining.{closed, refused, marked, grown, whole
 use Rattle.assembly.specs.Refusals.{RefusalLeaves}
 use Rattle.assembly.specs.Roles.{roleOf, takes, inOrder, ends, textOf, labelOf}
 use Rattle.assembly.proofs.Order.{stored-refused, whole-accepted}
+use Rattle.assembly.proofs.Places.{not-both}
 
 abbrev Listed : ℕ → Type 0
 Listed n = (n ≡ 8) ⊎ (n ≡ 9) ⊎ (n ≡ 12)
@@ -96,9 +97,6 @@ abbrev numberIn : Reply → ℕ
 numberIn (Reply.number n) = n
 numberIn Reply.taken = 0
 numberIn (Reply.whole values n) = 0
-
-not-both : {P : Type 0} → _≡_ {A = Bool} true false → P
-not-both e = absurd (omega (arith, ap (λ (t : Bool). if {A = ℕ} t 0 1) e))
 
 abbrev isRefusal : Reply → Bool
 isRefusal (Reply.number n) = true
