@@ -23,6 +23,7 @@ use Rattle.sedna_write.specs.Writing.{left}
 use Rattle.session_exact.proofs.Refused.{step-refused}
 use Rattle.fragments.specs.Part.{partWritten, partLeft}
 use Rattle.fragments_exact.proofs.Parts.{part-beyond, part-there}
+use Rattle.assembly.proofs.Offered.{offered}
 use Rattle.assembly.proofs.Refusals.{refusal-leaves}
 use Rattle.demands.specs.Demand1.{OneOf, Sedna, Parts, Demand1}
 use Rattle.demands.proofs.Refused.{basex}
@@ -62,6 +63,7 @@ parts = record {
   part-beyond = part-beyond;
   part-there = part-there;
   part-leaves = part-leaves;
+  offered = offered;
   join-refused = refusal-leaves;
 }
 

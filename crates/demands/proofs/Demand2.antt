@@ -21,6 +21,7 @@ use Rattle.basex_string.specs.Scan.{reading}
 use Rattle.basex_string.specs.Strings.{string}
 use Rattle.basex_string.proofs.Laws as strings
 use Rattle.basex_request.proofs.Laws as requests
+use Rattle.basex_exact.proofs.Exactly.{written-exactly, told-exactly, input-suffices, errors-exactly}
 use Rattle.basex_exact.proofs.Laws as responses
 use Rattle.basex_exact.proofs.Responses.{response-exact, one-response}
 use Rattle.basex_exact.proofs.Wrote.{response-written}
@@ -74,6 +75,8 @@ string-exact s t rest = (strings.exact s t rest, λ (e : s ≡ string t ++ rest)
 basex : BaseX
 basex =
     record {
+      written-exactly = written-exactly;
+      told-exactly = told-exactly;
       string-exact = string-exact;
       one-string = λ s t rest more. strings.one-encoding s t rest more;
       request-exact = requests.reading-exact;
@@ -88,6 +91,8 @@ basex =
       response-read-written = responses.read-written;
       response-write-read = responses.write-read;
       items-handed = responses.items-all;
+      input-suffices = input-suffices;
+      errors-exactly = errors-exactly;
     }
 
 pub demand-2 : Demand2

@@ -35,8 +35,10 @@ use Rattle.session.specs.Step.{stepped}
 use Rattle.session_cell.specs.Lent.{lentAnswer, lentLeft}
 use Rattle.fragments.specs.Part.{partWritten, partLeft}
 use Rattle.assembly.specs.declared.Assembly.{Assembly}
+use Rattle.assembly.specs.declared.Open.{Open}
 use Rattle.assembly.specs.Answers.{Reply, reply}
 use Rattle.assembly.specs.Joining.{joined}
+use Rattle.assembly.specs.Offered.{Offered}
 use Rattle.assembly.specs.Refusals.{RefusalLeaves}
 use Rattle.basex_string.specs.declared.Spelled.the-variants as spelled
 use Rattle.basex_string.specs.declared.StringAt.the-variants as string-at
@@ -86,7 +88,9 @@ pub record Parts : Type 0 where
   -- a refused part of a cut leaves every byte of the lent output
   pub part-leaves : (out : List ℕ) (allowed encodable : Bool) (cut : List Message) (k : ℕ) (r : Refusal) → partWritten allowed encodable cut k (length out) ≡ Refused r
       → partLeft out (getElem? cut k) (partWritten allowed encodable cut k (length out)) ≡ out
-  -- a refused part or end of a gathering: 8, 9 or 12; the buffer stays, and the record but for the mark
+  -- "When joining: 8, 9, 12": what each of any list of messages is answered after an opening, by the cuttings alone
+  pub offered : (what : Open) (d : List ℕ) (offers : List Message) → Offered what d offers
+  -- a refused part or end leaves the buffer, and the record but for the mark
   pub join-refused : (a : Assembly) (d : List ℕ) (m : Message) (n : ℕ) → reply (joined a (length d) m .answer) ≡ Reply.number n → RefusalLeaves a d m n
 
 -- BaseX: the refusals that each call gives, and that a refused one leaves every lent byte

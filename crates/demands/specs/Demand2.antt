@@ -60,6 +60,7 @@ use Rattle.basex_response.specs.Reading as responses
 use Rattle.basex_response.specs.Reading.{allTexts}
 use Rattle.basex_response.specs.Writing.{fullOf}
 use Rattle.basex_exact.specs.Calls.{Output, listedOf, handed, responded}
+use Rattle.basex_exact.specs.Exactly.{WrittenExactly, ToldExactly, InputSuffices, ErrorsExactly}
 
 -- Sedna's messages, read by the side that sent them. The bytes of a slice are bytes: `IsBytes s` is no condition on a caller
 pub record Sedna : Type 0 where
@@ -130,6 +131,9 @@ pub record Parts : Type 0 where
 
 -- BaseX strings, requests, and responses read knowing the request
 pub record BaseX : Type 0 where
+  -- what the calls write, and what those of reading tell, exactly; and which refusal is due else
+  pub written-exactly : WrittenExactly
+  pub told-exactly : ToldExactly
   -- a string is read exactly where its encoding stands in front
   pub string-exact : (s t rest : List ℕ) → (strings.reading s ≡ Got.got t rest) ↔ (s ≡ string t ++ rest)
   -- a string has one encoding
@@ -164,6 +168,10 @@ pub record BaseX : Type 0 where
   -- every item of a response that was read is handed out, in order, with its id, URI and text, however many there are
   pub items-handed : (kind : ℕ) (s : List ℕ) (r : Response) (rest out : List ℕ) → listedOf (findOf kind) ≡ true → responses.reading kind s ≡ Got.got r rest → length (flatten (allTexts r)) ≤ length out
       → handed (suc (length (r .items))) (fullOf (findOf kind)) s (responses.left out (responses.reading kind s)) 0 0 ≡ r .items
+  -- an output as long as the input has room for every text
+  pub input-suffices : InputSuffices
+  -- "with status 01 the last string is the error"
+  pub errors-exactly : ErrorsExactly
 
 pub record Demand2 : Type 0 where
   pub sedna : Sedna
