@@ -22,13 +22,13 @@ use Rattle.records.proofs.Spelt.{digits-back, digits-all, leading, digi
 
 -- six bytes that spell a length and a kind
 module _ (a b c d e f : ℕ) (s : List ℕ) where
-  abbrev size : ℕ
+  abbrev pub size : ℕ
   size = little (a ∷ b ∷ c ∷ d ∷ [])
 
-  abbrev kind : ℕ
+  abbrev pub kind : ℕ
   kind = little (e ∷ f ∷ [])
 
-  head-six : headOf (a ∷ b ∷ c ∷ d ∷ e ∷ f ∷ s) ≡ if (ltb 10248 size) head.Damaged (sent kind size)
+  pub head-six : headOf (a ∷ b ∷ c ∷ d ∷ e ∷ f ∷ s) ≡ if (ltb 10248 size) head.Damaged (sent kind size)
   unfolding headOf
   head-six = rw (le-ltb (length (a ∷ b ∷ c ∷ d ∷ e ∷ f ∷ s)) 6 (omega arith))
 

@@ -1,3 +1,4 @@
+pub mod ByTurns
 pub mod Decimals
 pub mod Example
 pub mod Formats
@@ -9,3 +10,4 @@ pub mod Replays
 pub mod Rooms
 pub mod Runs
 pub mod Spelt
+pub mod Unchanged

@@ -57,9 +57,14 @@ module _ (room at n : ℕ) (s : Session) (r : Record) (h : at + length (lineIn n
   line-tells f = let t = line-taken room at n s r h in (cc, cc)
 
 -- what the answer tells of the room
-module _ (d : List ℕ) (at : ℕ) (text : List ℕ) {x : Put} (e : x ≡ putIn (length d) at text) where
-  pub bytes-fit : {k : ℕ} → x ≡ put.Bytes k → at + length text ≤ length d
-  bytes-fit {k} f = either (ltb (length d) (at + length text)) _ _ (sym e ∙ f) (λ not p. apart (cc)) (λ fits p. ltb-false (length d) (at + length text) fits)
+pub bytes-fit : (d : List ℕ) (at : ℕ) (text : List ℕ) {k : ℕ} → putIn (length d) at text ≡ put.Bytes k → at + length text ≤ length d
+bytes-fit d at text e = either (ltb (length d) (at + length text)) _ _ e (λ long p. apart (cc)) (λ fits p. ltb-false (length d) (at + length text) fits)
 
-  pub refused-stays : {q : Refusal} → x ≡ put.Refused q → d ≡ placed d at text
-  refused-stays {q} f = either (ltb (length d) (at + length text)) _ _ (sym e ∙ f) (λ not p. sym (placed-not d at text (ltb-true (length d) (at + length text) not))) (λ fits p. apart (cc))
+pub text-refused : (d : List ℕ) (at : ℕ) (text : List ℕ) (x : Refusal) → putIn (length d) at text ≡ put.Refused x → (x ≡ NoRoom) × (placed d at text ≡ d)
+text-refused d at text x e =
+    either (ltb (length d) (at + length text)) _ _ e (λ long p. (cc, placed-not d at text (ltb-true (length d) (at + length text) long))) (λ fits p. apart (cc))
+
+pub line-refused : (d : List ℕ) (at n : ℕ) (s : Session) (r : Record) (x : Refusal) → linedIn (length d) at n s r ≡ lined.Refused x → (x ≡ NoRoom) × (placed d at (lineIn n s r) ≡ d)
+line-refused d at n s r x e =
+    let text = lineIn n s r in
+    either (ltb (length d) (at + length text)) _ _ e (λ long p. (cc, placed-not d at text (ltb-true (length d) (at + length text) long))) (λ fits p. apart (cc))

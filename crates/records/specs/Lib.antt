@@ -4,5 +4,7 @@ pub mod Answer
 pub mod Line
 pub mod Transcript
 pub mod Output
+pub mod Turn
+pub mod Unchanged
 pub mod Example
 pub mod Format

@@ -9,6 +9,7 @@ mod answers;
 mod decimal;
 mod heads;
 mod line;
+mod turns;
 mod whole;
 
 pub use answers::answer;
@@ -16,6 +17,7 @@ pub use heads::judge_head;
 pub use heads::record_at;
 pub use line::put_last_line;
 pub use line::put_line;
+pub use turns::put_turn;
 pub use whole::replay;
 
 // The six bytes ahead of a payload, judged: who sent it and how long it is.
@@ -37,6 +39,9 @@ pub struct Answered {
     pub session: Session,
 }
 
+// No record is longer: a head of 6 bytes, and a payload.
+pub const LONGEST_RECORD: usize = 10254;
+
 // No line of a record is longer: 20 digits, 10, at most 3, and 5 characters between and behind them.
 pub const LONGEST_LINE: usize = 38;
 
@@ -50,6 +55,14 @@ pub enum Lined {
 // How many bytes were put into lent output, or that there was no room for them.
 pub enum Put {
     Bytes(usize),
+    Refused(Refusal),
+}
+
+// What is printed for what was read of a record: a line of so many bytes, and the session to go on
+// with; or the last line. Or there was no room for it, and then nothing was stepped.
+pub enum Turn {
+    Line { count: usize, session: Session },
+    Last(usize),
     Refused(Refusal),
 }
 

@@ -1,6 +1,7 @@
+use mathlib.Core.Path.{sym, _∙_}
 use native.Mathlib.Omega.{arith}
 use Rattle.records.specs.Transcript.{printed}
-use Rattle.records.proofs.Rooms.{bytes-fit, refused-stays}
+use Rattle.records.proofs.Rooms.{bytes-fit, text-refused}
 use borrow.Author.Needs.{needs}
 use Rattle.records.proofs.whole.replay.Statement.{statement}
 use Rattle.records.proofs.whole.replay.Tie as tie
@@ -12,7 +13,7 @@ enum-told : tie.Need-enum-told
 enum-told c = search needs
 
 put-all-requires : tie.Need-put-all-requires
-put-all-requires c κs = omega (arith, bytes-fit (c .before .before .before .before .before .before .args .out .now) 0 (printed (c .before .before .before .before .before .before .args .bytes .now)) (c .before .before .before .size-within .ensures) (c .before .enum-told .given .1))
+put-all-requires c κs = omega (arith, bytes-fit (c .before .before .before .before .before .before .args .out .now) 0 (printed (c .before .before .before .before .before .before .args .bytes .now)) (sym (c .before .before .before .size-within .ensures) ∙ c .before .enum-told .given .1))
 
 enum-told-2 : tie.Need-enum-told-2
 enum-told-2 c = search needs
@@ -24,7 +25,7 @@ returns : tie.Need-returns
 returns c = search needs
 
 returns-2 : tie.Need-returns-2
-returns-2 c = (c .before .before .size-within .ensures, refused-stays (c .before .before .before .before .before .args .out .now) 0 (printed (c .before .before .before .before .before .args .bytes .now)) (c .before .before .size-within .ensures) (c .enum-told2 .given .1))
+returns-2 c = (c .before .before .size-within .ensures, sym (text-refused (c .before .before .before .before .before .args .out .now) 0 (printed (c .before .before .before .before .before .args .bytes .now)) _ (sym (c .before .before .size-within .ensures) ∙ c .enum-told2 .given .1) .1))
 
 pub replay-spec : {M : Type 1} → statement M
 replay-spec =
