@@ -27,6 +27,7 @@ pub fn run() -> Result<Tally, Disagreement> {
     let mut tally = Tally::default();
     let mut outputs = Outputs::default();
     reading::bad_calls()?;
+    reading::bad_option_calls()?;
     for input in inputs() {
         reading::compare(&input, &mut tally)?;
         if let Ok(message) = plain::read(input.side, &input.bytes) {

@@ -119,19 +119,16 @@ pub fn closed(session: &[u8]) -> bool {
 }
 
 /// 1 and id, start and length of the k-th pair in `fields`, or 0 for none.
-pub fn option(bytes: &[u8], region: (usize, usize), k: usize, fields: &mut [u64]) -> u64 {
+#[rustfmt::skip]
+pub fn option(
+    bytes: &[u8], (start, len): (usize, usize), k: usize, fields: &mut [u64],
+) -> Result<usize, u8> {
     // SAFETY: as in `read`.
-    unsafe {
+    answer(unsafe {
         kdr_option(
-            bytes.as_ptr(),
-            bytes.len(),
-            region.0,
-            region.1,
-            k,
-            fields.as_mut_ptr(),
-            fields.len(),
+            bytes.as_ptr(), bytes.len(), start, len, k, fields.as_mut_ptr(), fields.len(),
         )
-    }
+    })
 }
 
 /// Writes `value` as the body of `instruction`; the answer is the bytes written.

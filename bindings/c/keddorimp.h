@@ -20,10 +20,11 @@
  * be NULL, which the tests try and no proof speaks of. The library keeps nothing between two calls
  * and allocates nothing.
  *
- * Answers. Unless the comment above a function says otherwise, an answer below 2^63 is a count, and
- * one above it is a refusal, its number on top of 2^63. A refusal leaves every lent byte and number
- * as it was, with one exception (KDR_BUFFER_OVERRUN, at kdr_join). The comments name the refusals
- * in the order in which they are judged: a call that deserves two gets the first.
+ * Answers. An answer below 2^63 is a count (of bytes read or written, or of parts), one above it is
+ * a refusal, its number on top of 2^63. A refusal leaves every lent byte and number as it was, with
+ * one exception (KDR_BUFFER_OVERRUN, at kdr_join). What is told beside a count goes to the front of
+ * lent numbers. The comments name the refusals in the order in which they are judged: a call that
+ * deserves two gets the first.
  */
 #ifndef KEDDORIMP_H
 #define KEDDORIMP_H
@@ -216,9 +217,9 @@ enum kdr_option_field {
 };
 
 /* The option number k, from 0, of a SetOptions that was read from `bytes`: `start` and `length` are
- * its fields START_1 and LENGTH_1. The answer is 1, and `fields` gets three numbers. It is 0, and
- * no refusal, where there is no such option and also where fewer than three numbers are lent. Each
- * call walks from the first option. */
+ * its fields START_1 and LENGTH_1. The answer is 1, and `fields` gets three numbers; it is 0 where
+ * there is no such option. Refused: 10 where there is one and fewer than three numbers are lent.
+ * Each call walks from the first option. */
 uint64_t kdr_option(const uint8_t *bytes, size_t bytes_len, size_t start, size_t length, size_t k,
                     uint64_t *fields, size_t fields_len);
 
@@ -292,8 +293,8 @@ uint8_t kdr_closed(const uint8_t *session, size_t session_len);
 
 /* ---- Cutting (parts_c) ---- */
 
-/* The first four tell how many messages a text of n bytes is cut into, and are never refused. An
- * item's end, ItemEnd or ResultEnd, is no part, and does not count. */
+/* The first four tell how many messages a text of n bytes is cut into. An item's end, ItemEnd or
+ * ResultEnd, is no part, and does not count. */
 
 /* A statement. LongQueryEnd counts: 10,234 bytes give one message, 10,235 give three. */
 uint64_t kdr_statement_parts(size_t n);
@@ -304,8 +305,8 @@ uint64_t kdr_item_parts(size_t n);
 /* An item of 4.0 without a URL. */
 uint64_t kdr_typed_item_parts(size_t n);
 
-/* An item of 4.0 with a URL of url_len bytes. 0 where that is above 10,227: the URL then leaves no
- * room, and no cut has 0 parts. */
+/* An item of 4.0 with a URL of url_len bytes. Refused: 11 where that is above 10,227, since the URL
+ * then leaves no room. The other three are never refused. */
 uint64_t kdr_typed_item_url_parts(size_t n, size_t url_len);
 
 /* The others put part k, from 0, of the cut in front of `out`; the answer is how many bytes the
@@ -385,10 +386,6 @@ uint64_t kdr_join(uint64_t *assembly, size_t assembly_len, uint8_t *buffer, size
 
 /* ---- BaseX (basex_c) ---- */
 
-/* Here an answer is 0 or a refusal, and counts and places go to `told`. (kdr_basex_string_len alone
- * answers a count, and kdr_basex_item may answer 1.) Ahead of all other refusals, for each that is
- * lent `told`: 10 where that has fewer numbers than are told. */
-
 /* The first byte of a request, by document 01's names. Every byte from 0x20 to 0xFE is that of a
  * COMMAND. */
 enum kdr_basex_kind {
@@ -409,37 +406,31 @@ enum kdr_basex_kind {
     KDR_BASEX_COMMAND = 0x20
 };
 
-/* What is told of what was written: one number, its bytes. */
-enum kdr_basex_written_field {
-    KDR_BASEX_WRITTEN = 0,
-    KDR_BASEX_WRITTEN_FIELDS = 1
-};
-
 /* ---- BaseX strings (basex_c) ---- */
 
-/* How many bytes the text takes as a string: FF before each 00 and FF, and 00 behind. This is never
- * a refusal. */
+/* How many bytes the text takes as a string: FF before each 00 and FF, and 00 behind. It is never
+ * refused. */
 uint64_t kdr_basex_string_len(const uint8_t *text, size_t text_len);
 
-/* Puts the text as a string into `out` from `at` on. Refused: 10 where it does not fit. */
+/* Puts the text as a string into `out` from `at` on; the answer is how many bytes it takes.
+ * Refused: 10 where it does not fit. */
 uint64_t kdr_basex_write_string(uint8_t *out, size_t out_len, size_t at,
-                                const uint8_t *text, size_t text_len,
-                                uint64_t *told, size_t told_len);
+                                const uint8_t *text, size_t text_len);
 
 /* What is told of a string that was read. */
 enum kdr_basex_string_field {
     KDR_BASEX_STRING_LENGTH = 0, /* how long it is, decoded */
-    KDR_BASEX_STRING_NEXT = 1,   /* where in `bytes` the next field starts */
-    KDR_BASEX_STRING_FIELDS = 2
+    KDR_BASEX_STRING_FIELDS = 1
 };
 
-/* Judges the string that starts at `at`, and stores nothing of it. Refused: 1 where its end is
- * missing; 13 as soon as there is an FF and a byte behind it that is neither 00 nor FF. */
+/* Judges the string that starts at `at`, and stores nothing of it. The answer is how many bytes it
+ * takes in `bytes`, and `told` gets one number. Refused: 1 where its end is missing; 13 as soon as
+ * an FF has a byte behind it that is neither 00 nor FF; last 10 where no number is lent. */
 uint64_t kdr_basex_string_at(const uint8_t *bytes, size_t bytes_len, size_t at,
                              uint64_t *told, size_t told_len);
 
 /* The same, and the decoded string is put into `out` from `to` on. Refused: 1 and 13 as there; last
- * 10 where it does not fit. */
+ * 10 where it does not fit or no number is lent. */
 uint64_t kdr_basex_decode(const uint8_t *bytes, size_t bytes_len, size_t at,
                           uint8_t *out, size_t out_len, size_t to,
                           uint64_t *told, size_t told_len);
@@ -453,26 +444,26 @@ enum kdr_basex_request_field {
     KDR_BASEX_REQUEST_LENGTH_2 = 2,
     KDR_BASEX_REQUEST_LENGTH_3 = 3,
     KDR_BASEX_REQUEST_LENGTH_4 = 4,
-    KDR_BASEX_REQUEST_READ = 5, /* how many bytes it has */
-    KDR_BASEX_REQUEST_FIELDS = 6
+    KDR_BASEX_REQUEST_FIELDS = 5
 };
 
-/* Reads the request at the front of `bytes`. Its decoded texts stand one behind the other in front
- * of `out`; a COMMAND is one text, its first byte included. Refused: 1 for no byte; 2 for a first
- * byte that starts no request; then 1 and 13, string by string; last 10 where the texts do not
- * fit. */
+/* Reads the request at the front of `bytes`. The answer is how many bytes it has, and `told` gets
+ * five numbers. Its decoded texts stand one behind the other in front of `out`; a COMMAND is one
+ * text, its first byte included. Refused: 1 for no byte; 2 for a first byte that starts no request;
+ * then 1 and 13, string by string; last 10 where the texts do not fit or five numbers are not
+ * lent. */
 uint64_t kdr_basex_read_request(const uint8_t *bytes, size_t bytes_len,
                                 uint8_t *out, size_t out_len, uint64_t *told, size_t told_len);
 
-/* Puts a request of that kind in front of `out`. The texts that the kind does not have must be
- * empty. Refused: 2 for a kind that is none; 8 for a text that it does not have; 11 for a COMMAND
- * that is empty or does not start with 0x20 to 0xFE; 10 where it does not fit. */
+/* Puts a request of that kind in front of `out`; the answer is how many bytes it has. The texts
+ * that the kind does not have must be empty. Refused: 2 for a kind that is none; 8 for a text that
+ * it does not have; 11 for a COMMAND that is empty or does not start with 0x20 to 0xFE; 10 where it
+ * does not fit. */
 uint64_t kdr_basex_write_request(uint8_t *out, size_t out_len, uint8_t kind,
                                  const uint8_t *first, size_t first_len,
                                  const uint8_t *second, size_t second_len,
                                  const uint8_t *third, size_t third_len,
-                                 const uint8_t *fourth, size_t fourth_len,
-                                 uint64_t *told, size_t told_len);
+                                 const uint8_t *fourth, size_t fourth_len);
 
 /* ---- BaseX responses (basex_c) ---- */
 
@@ -486,14 +477,14 @@ enum kdr_basex_response_field {
     KDR_BASEX_RESPONSE_LISTED = 3, /* and how long all their URIs and texts are */
     KDR_BASEX_RESPONSE_STATUS = 4, /* 0 or 1 */
     KDR_BASEX_RESPONSE_ERROR = 5,  /* how long the error behind status 1 is */
-    KDR_BASEX_RESPONSE_READ = 6,   /* how many bytes the response has */
-    KDR_BASEX_RESPONSE_FIELDS = 7
+    KDR_BASEX_RESPONSE_FIELDS = 6
 };
 
-/* Reads the response at the front of `bytes`, to a request whose first byte is `kind`. Its decoded
- * texts stand one behind the other in front of `out`: those ahead of the status, those of the items
- * (of each, its URI where it has one, and its text), and the error. Refused: 1 for no byte; 2 for a
- * kind that is none; then 1, 8 and 13, field by field; last 10 where the texts do not fit. */
+/* Reads the response at the front of `bytes`, to a request whose first byte is `kind`. The answer
+ * is how many bytes it has, and `told` gets six numbers. Its decoded texts stand one behind the
+ * other in front of `out`: those ahead of the status, those of the items (of each, its URI where it
+ * has one, and its text), and the error. Refused: 1 for no byte; 2 for a kind that is none; then 1,
+ * 8 and 13, field by field; last 10 where the texts do not fit or six numbers are not lent. */
 uint64_t kdr_basex_read_response(uint8_t kind, const uint8_t *bytes, size_t bytes_len,
                                  uint8_t *out, size_t out_len, uint64_t *told, size_t told_len);
 
@@ -502,35 +493,34 @@ enum kdr_basex_item_field {
     KDR_BASEX_ITEM_ID = 0,
     KDR_BASEX_ITEM_URI = 1,  /* how long its URI is, decoded; 0 where it has none */
     KDR_BASEX_ITEM_TEXT = 2, /* and its text */
-    KDR_BASEX_ITEM_NEXT = 3, /* where in `bytes` the next item starts, or the 00 behind the last */
-    KDR_BASEX_ITEM_FIELDS = 4
+    KDR_BASEX_ITEM_FIELDS = 3
 };
 
-/* The item that starts at `at` in the bytes of a response to RESULTS, or to FULL where `full`. The
- * first stands at 0. The answer is 0 for an item and 1 for the 00 behind the last, for which
- * nothing is told. Refused: 1, 8 and 13, field by field. */
-uint64_t kdr_basex_item(bool full, const uint8_t *bytes, size_t bytes_len, size_t at,
+/* The item that starts at `at` in the bytes of a response to a request whose first byte is `kind`;
+ * the first stands at 0. The answer is how many bytes it takes, so the next stands so many bytes
+ * further on, and `told` gets three numbers. At the 00 behind the last item the answer is 0, and
+ * nothing is told. Refused: 2 for a kind that is none; 8 for one without items; then 1, 8 and 13,
+ * field by field; last 10 where fewer than three numbers are lent. */
+uint64_t kdr_basex_item(uint8_t kind, const uint8_t *bytes, size_t bytes_len, size_t at,
                         uint64_t *told, size_t told_len);
 
-/* Puts an item of a response to RESULTS or FULL into `out` from `at` on. Refused: 2 for a kind that
- * is none; 8 for one without items, an id that is not allowed (7-15 and 32-83 are), and a URI that
- * is not empty where the item has none (only ids 12, 14 and 82 have one, and only in FULL); 10
- * where it does not fit. */
+/* Puts an item of a response to RESULTS or FULL into `out` from `at` on; the answer is how many
+ * bytes it takes. Refused: 2 for a kind that is none; 8 for one without items, an id that is not
+ * allowed (7-15 and 32-83 are), and a URI that is not empty where the item has none (only ids 12,
+ * 14 and 82 have one, and only in FULL); 10 where it does not fit. */
 uint64_t kdr_basex_write_item(uint8_t *out, size_t out_len, size_t at, uint8_t kind, uint8_t id,
                               const uint8_t *uri, size_t uri_len,
-                              const uint8_t *text, size_t text_len,
-                              uint64_t *told, size_t told_len);
+                              const uint8_t *text, size_t text_len);
 
 /* Puts all of a response but its items into `out` from `at` on: for RESULTS and FULL the 00 behind
- * the items, the status and the error; for any other kind the whole response. Refused: 2 for a kind
- * that is none; 8 for a status above 1, and for a text or an error that is not empty where the
- * response has none (above kdr_basex_response_field stands which it has); 10 where it does not
- * fit. */
+ * the items, the status and the error; for any other kind the whole response. The answer is how
+ * many bytes that takes. Refused: 2 for a kind that is none; 8 for a status above 1, and for a text
+ * or an error that is not empty where the response has none (above kdr_basex_response_field stands
+ * which it has); 10 where it does not fit. */
 uint64_t kdr_basex_write_end(uint8_t *out, size_t out_len, size_t at, uint8_t kind,
                              const uint8_t *first, size_t first_len,
                              const uint8_t *second, size_t second_len, uint8_t status,
-                             const uint8_t *error, size_t error_len,
-                             uint64_t *told, size_t told_len);
+                             const uint8_t *error, size_t error_len);
 
 #ifdef __cplusplus
 }

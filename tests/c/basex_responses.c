@@ -3,24 +3,27 @@
 
 /* The response, with other bytes behind it, has those texts and is told so; 1 where its last byte
  * is missing, whatever the room. */
-#define RESPONDS(kind, hex, text, ...)                                                             \
-    do {                                                                                           \
-        uint8_t bytes[64] = {0};                                                                   \
-        size_t n = from_hex(bytes, hex);                                                           \
-        BASEX_READS(text, kdr_basex_read_response(kind, bytes, n + 1, lent.out, room,              \
-                                                  lent.numbers, told),                             \
-                    __VA_ARGS__, [KDR_BASEX_RESPONSE_READ] = n);                                   \
-        REFUSED(KDR_MORE_BYTES, kdr_basex_read_response(kind, bytes, n - 1, NULL, 0,               \
-                                                        lent.numbers, KDR_BASEX_RESPONSE_FIELDS)); \
+#define RESPONDS(kind, hex, text, ...)                                                \
+    do {                                                                              \
+        uint8_t bytes[64] = {0};                                                      \
+        size_t n = from_hex(bytes, hex);                                              \
+        BASEX_READS(n, text,                                                          \
+                    kdr_basex_read_response(kind, bytes, n + 1, lent.out, room,       \
+                                            lent.numbers, told),                      \
+                    __VA_ARGS__);                                                     \
+        REFUSED(KDR_MORE_BYTES,                                                       \
+                kdr_basex_read_response(kind, bytes, n - 1, NULL, 0, lent.numbers,    \
+                                        KDR_BASEX_RESPONSE_FIELDS));                  \
     } while (0)
 
-/* The response is refused so, whatever the room. */
-#define RESPONSE_REFUSED(number, kind, hex)                                            \
-    do {                                                                               \
-        uint8_t bytes[64];                                                             \
-        size_t n = from_hex(bytes, hex);                                               \
-        REFUSED(number, kdr_basex_read_response(kind, bytes, n, NULL, 0, lent.numbers, \
-                                                KDR_BASEX_RESPONSE_FIELDS));           \
+/* The response is refused so, whatever the room and however few numbers are lent. */
+#define RESPONSE_REFUSED(number, kind, hex)                                                \
+    do {                                                                                   \
+        uint8_t bytes[64];                                                                 \
+        size_t n = from_hex(bytes, hex);                                                   \
+        REFUSED(number, kdr_basex_read_response(kind, bytes, n, NULL, 0, lent.numbers,     \
+                                                KDR_BASEX_RESPONSE_FIELDS));               \
+        REFUSED(number, kdr_basex_read_response(kind, bytes, n, lent.out, room, NULL, 0)); \
     } while (0)
 
 /* One response of each make: two strings, one string, a string and an error, items. */
@@ -36,8 +39,6 @@ static void check_reading_responses(void)
     RESPONDS(KDR_BASEX_FULL, "0C 75 00 74 00 0B 3C3E 00 00 01 65 00", "ut<>e",
              [KDR_BASEX_RESPONSE_ITEMS] = 2, [KDR_BASEX_RESPONSE_LISTED] = 4,
              [KDR_BASEX_RESPONSE_STATUS] = 1, [KDR_BASEX_RESPONSE_ERROR] = 1);
-    REFUSED(KDR_NO_ROOM, kdr_basex_read_response(KDR_BASEX_QUERY, NULL, 0, NULL, 0, lent.numbers,
-                                                 KDR_BASEX_RESPONSE_FIELDS - 1));
     RESPONSE_REFUSED(KDR_MORE_BYTES, 0x01, "");
     RESPONSE_REFUSED(KDR_UNKNOWN_INSTRUCTION, 0x01, "FF41");
     RESPONSE_REFUSED(KDR_UNKNOWN_INSTRUCTION, 0xFF, "00");
@@ -49,74 +50,68 @@ static void check_reading_responses(void)
 /* The items of a response, one by one, as FULL and as RESULTS understand the same bytes. */
 static void check_items(void)
 {
+    const uint8_t full = KDR_BASEX_FULL, results = KDR_BASEX_RESULTS;
     uint8_t bytes[16], bad[] = {7, 0xFF, 0x41};
     const size_t n = from_hex(bytes, "0C 7576 00 74 00 0B 3C612F3E 00 00");
     uint64_t *t = lent.numbers;
     lend();
-    CHECK(kdr_basex_item(true, bytes, n, 0, t, KDR_BASEX_ITEM_FIELDS) == 0);
-    TOLD([KDR_BASEX_ITEM_ID] = 12, [KDR_BASEX_ITEM_URI] = 2, [KDR_BASEX_ITEM_TEXT] = 1,
-         [KDR_BASEX_ITEM_NEXT] = 6);
-    CHECK(kdr_basex_item(true, bytes, n, t[KDR_BASEX_ITEM_NEXT], t, KDR_BASEX_ITEM_FIELDS) == 0);
-    TOLD(11, 0, 4, 12);
+    CHECK(kdr_basex_item(full, bytes, n, 0, t, KDR_BASEX_ITEM_FIELDS) == 6);
+    TOLD([KDR_BASEX_ITEM_ID] = 12, [KDR_BASEX_ITEM_URI] = 2, [KDR_BASEX_ITEM_TEXT] = 1);
+    CHECK(kdr_basex_item(full, bytes, n, 6, t, KDR_BASEX_ITEM_FIELDS) == 6);
+    TOLD(11, 0, 4);
     lend();
-    CHECK(kdr_basex_item(true, bytes, n, 12, t, KDR_BASEX_ITEM_FIELDS) == 1);
+    CHECK(kdr_basex_item(full, bytes, n, 12, t, KDR_BASEX_ITEM_FIELDS) == 0);
+    CHECK(kdr_basex_item(full, bytes, n, 12, NULL, 0) == 0);
     CHECK(ALL_LEFT_ALONE);
-    CHECK(kdr_basex_item(false, bytes, n, 0, t, KDR_BASEX_ITEM_FIELDS) == 0);
-    TOLD(12, 0, 2, 4);
-    REFUSED(KDR_NO_ROOM, kdr_basex_item(true, bytes, n, 0, t, KDR_BASEX_ITEM_FIELDS - 1));
-    REFUSED(KDR_NO_ROOM, kdr_basex_item(true, bytes, n, 12, NULL, 0));
-    REFUSED(KDR_MORE_BYTES, kdr_basex_item(true, bytes, 5, 0, t, 4));
-    REFUSED(KDR_MORE_BYTES, kdr_basex_item(true, bytes, n, SIZE_MAX, t, 4));
-    REFUSED(KDR_VALUE_NOT_ALLOWED, kdr_basex_item(true, bytes, n, 1, t, 4));
-    REFUSED(KDR_BAD_ESCAPE, kdr_basex_item(false, bad, 3, 0, t, 4));
+    CHECK(kdr_basex_item(results, bytes, n, 0, t, KDR_BASEX_ITEM_FIELDS) == 4);
+    TOLD(12, 0, 2);
+    REFUSED(KDR_NO_ROOM, kdr_basex_item(full, bytes, n, 0, t, KDR_BASEX_ITEM_FIELDS - 1));
+    REFUSED(KDR_MORE_BYTES, kdr_basex_item(full, bytes, 5, 0, t, 3));
+    REFUSED(KDR_MORE_BYTES, kdr_basex_item(full, bytes, n, SIZE_MAX, NULL, 0));
+    REFUSED(KDR_VALUE_NOT_ALLOWED, kdr_basex_item(full, bytes, n, 1, t, 2));
+    REFUSED(KDR_BAD_ESCAPE, kdr_basex_item(results, bad, 3, 0, t, 2));
+    REFUSED(KDR_UNKNOWN_INSTRUCTION, kdr_basex_item(0x01, NULL, 0, 0, t, 3));
+    REFUSED(KDR_VALUE_NOT_ALLOWED, kdr_basex_item(KDR_BASEX_QUERY, NULL, 0, 0, t, 3));
 }
 
 static void check_writing_items(void)
 {
     uint8_t *out = lent.out;
-    uint64_t *t = lent.numbers;
-    BASEX_WRITES(0, "34 3100", kdr_basex_write_item(out, room, 0, KDR_BASEX_RESULTS, 52, NO_TEXT,
-                                                    TEXT("1"), t, told));
-    BASEX_WRITES(5, "0C 7500 FF0000", kdr_basex_write_item(out, room, 5, KDR_BASEX_FULL, 12,
-                                                           TEXT("u"), TEXT("\0"), t, told));
-    REFUSED(KDR_UNKNOWN_INSTRUCTION,
-            kdr_basex_write_item(out, 0, 0, 1, 6, TEXT("u"), NO_TEXT, t, 1));
-    REFUSED(KDR_VALUE_NOT_ALLOWED, kdr_basex_write_item(out, 0, 0, 5, 52, NO_TEXT, NO_TEXT, t, 1));
-    REFUSED(KDR_VALUE_NOT_ALLOWED, kdr_basex_write_item(out, 0, 0, 4, 16, NO_TEXT, NO_TEXT, t, 1));
-    REFUSED(KDR_VALUE_NOT_ALLOWED,
-            kdr_basex_write_item(out, 0, 0, 4, 12, TEXT("u"), NO_TEXT, t, 1));
-    REFUSED(KDR_VALUE_NOT_ALLOWED,
-            kdr_basex_write_item(out, 0, 0, 31, 13, TEXT("u"), NO_TEXT, t, 1));
-    REFUSED(KDR_NO_ROOM, kdr_basex_write_item(out, room, SIZE_MAX, 4, 52, NO_TEXT, NO_TEXT, t, 1));
+    WRITES("34 3100",
+           kdr_basex_write_item(out, room, 0, KDR_BASEX_RESULTS, 52, NO_TEXT, TEXT("1")));
+    WRITES_AT(5, "0C 7500 FF0000",
+              kdr_basex_write_item(out, room, 5, KDR_BASEX_FULL, 12, TEXT("u"), TEXT("\0")));
+    REFUSED(KDR_UNKNOWN_INSTRUCTION, kdr_basex_write_item(out, 0, 0, 1, 6, TEXT("u"), NO_TEXT));
+    REFUSED(KDR_VALUE_NOT_ALLOWED, kdr_basex_write_item(out, 0, 0, 5, 52, NO_TEXT, NO_TEXT));
+    REFUSED(KDR_VALUE_NOT_ALLOWED, kdr_basex_write_item(out, 0, 0, 4, 16, NO_TEXT, NO_TEXT));
+    REFUSED(KDR_VALUE_NOT_ALLOWED, kdr_basex_write_item(out, 0, 0, 4, 12, TEXT("u"), NO_TEXT));
+    REFUSED(KDR_VALUE_NOT_ALLOWED, kdr_basex_write_item(out, 0, 0, 31, 13, TEXT("u"), NO_TEXT));
+    REFUSED(KDR_NO_ROOM, kdr_basex_write_item(out, room, SIZE_MAX, 4, 52, NO_TEXT, NO_TEXT));
 }
 
 static void check_writing_ends(void)
 {
     uint8_t *out = lent.out;
-    uint64_t *t = lent.numbers;
-    BASEX_WRITES(0, "6100 6200 01",
-                 kdr_basex_write_end(out, room, 0, KDR_BASEX_COMMAND, TEXT("a"), TEXT("b"), 1,
-                                     NO_TEXT, t, told));
-    BASEX_WRITES(0, "6100 01 6500",
-                 kdr_basex_write_end(out, room, 0, KDR_BASEX_INFO, TEXT("a"), NO_TEXT, 1, TEXT("e"),
-                                     t, told));
-    BASEX_WRITES(
-        4, "00 01 6500",
-        kdr_basex_write_end(out, room, 4, KDR_BASEX_FULL, NO_TEXT, NO_TEXT, 1, TEXT("e"), t, told));
+    WRITES("6100 6200 01", kdr_basex_write_end(out, room, 0, KDR_BASEX_COMMAND, TEXT("a"),
+                                               TEXT("b"), 1, NO_TEXT));
+    WRITES("6100 01 6500",
+           kdr_basex_write_end(out, room, 0, KDR_BASEX_INFO, TEXT("a"), NO_TEXT, 1, TEXT("e")));
+    WRITES_AT(4, "00 01 6500",
+              kdr_basex_write_end(out, room, 4, KDR_BASEX_FULL, NO_TEXT, NO_TEXT, 1, TEXT("e")));
     REFUSED(KDR_UNKNOWN_INSTRUCTION,
-            kdr_basex_write_end(out, 0, 0, 1, NO_TEXT, NO_TEXT, 2, NO_TEXT, t, 1));
+            kdr_basex_write_end(out, 0, 0, 1, NO_TEXT, NO_TEXT, 2, NO_TEXT));
     REFUSED(KDR_VALUE_NOT_ALLOWED,
-            kdr_basex_write_end(out, 0, 0, 5, NO_TEXT, NO_TEXT, 2, NO_TEXT, t, 1));
+            kdr_basex_write_end(out, 0, 0, 5, NO_TEXT, NO_TEXT, 2, NO_TEXT));
     REFUSED(KDR_VALUE_NOT_ALLOWED,
-            kdr_basex_write_end(out, 0, 0, 5, NO_TEXT, TEXT("b"), 0, NO_TEXT, t, 1));
+            kdr_basex_write_end(out, 0, 0, 5, NO_TEXT, TEXT("b"), 0, NO_TEXT));
     REFUSED(KDR_VALUE_NOT_ALLOWED,
-            kdr_basex_write_end(out, 0, 0, 4, TEXT("a"), NO_TEXT, 0, NO_TEXT, t, 1));
+            kdr_basex_write_end(out, 0, 0, 4, TEXT("a"), NO_TEXT, 0, NO_TEXT));
     REFUSED(KDR_VALUE_NOT_ALLOWED,
-            kdr_basex_write_end(out, 0, 0, 5, NO_TEXT, NO_TEXT, 0, TEXT("e"), t, 1));
+            kdr_basex_write_end(out, 0, 0, 5, NO_TEXT, NO_TEXT, 0, TEXT("e")));
     REFUSED(KDR_VALUE_NOT_ALLOWED,
-            kdr_basex_write_end(out, 0, 0, 8, NO_TEXT, NO_TEXT, 1, TEXT("e"), t, 1));
+            kdr_basex_write_end(out, 0, 0, 8, NO_TEXT, NO_TEXT, 1, TEXT("e")));
     REFUSED(KDR_NO_ROOM,
-            kdr_basex_write_end(out, room, SIZE_MAX, 5, NO_TEXT, NO_TEXT, 0, NO_TEXT, t, 1));
+            kdr_basex_write_end(out, room, SIZE_MAX, 5, NO_TEXT, NO_TEXT, 0, NO_TEXT));
 }
 
 void check_basex_responses(void)

@@ -44,21 +44,25 @@ size_t from_hex(uint8_t *bytes, const char *hex);
         CHECK(ALL_LEFT_ALONE);                   \
     } while (0)
 
-/* The call, which is lent just enough, puts those bytes in front of the output and answers their
- * number; it changes nothing else. With one byte less it is refused with 10. */
-#define WRITES(hex, call)                                                     \
+/* The call, which is lent just enough, puts those bytes into the output from `at` on and answers
+ * their number; it changes nothing else. With one byte less it is refused with 10. */
+#define WRITES_AT(at, hex, call)                                              \
     do {                                                                      \
         static uint8_t expected[sizeof lent.out];                             \
         size_t size = from_hex(expected, hex);                                \
         lend();                                                               \
-        room = size;                                                          \
+        room = (at) + size;                                                   \
         CHECK((call) == size);                                                \
-        CHECK(memcmp(lent.out, expected, size) == 0);                         \
-        CHECK(left_alone((const uint8_t *)&lent + size, sizeof lent - size)); \
-        room = size - 1;                                                      \
+        CHECK(left_alone(lent.out, at));                                      \
+        CHECK(memcmp(lent.out + (at), expected, size) == 0);                  \
+        CHECK(left_alone((const uint8_t *)&lent + room, sizeof lent - room)); \
+        room--;                                                               \
         REFUSED(KDR_NO_ROOM, call);                                           \
         room = sizeof lent.out;                                               \
     } while (0)
+
+/* The same in front of the output. */
+#define WRITES(hex, call) WRITES_AT(0, hex, call)
 
 /* The numbers in front of those that were lent are these, and those behind are as they were. */
 #define TOLD(...)                                                     \
@@ -69,39 +73,16 @@ size_t from_hex(uint8_t *bytes, const char *hex);
                          sizeof lent.numbers - sizeof these));        \
     } while (0)
 
-/* For BaseX, where the answer is 0 and counts are told. The call, which is lent just enough, puts
- * those bytes into the output from `at` on and tells their number; with one byte less of output,
- * and with no number lent, it is refused with 10. */
-#define BASEX_WRITES(at, hex, call)                                 \
-    do {                                                            \
-        uint8_t expected[64];                                       \
-        size_t size = from_hex(expected, hex);                      \
-        lend();                                                     \
-        room = (at) + size;                                         \
-        told = 1;                                                   \
-        CHECK((call) == 0);                                         \
-        TOLD(size);                                                 \
-        CHECK(left_alone(lent.out, at));                            \
-        CHECK(memcmp(lent.out + (at), expected, size) == 0);        \
-        CHECK(left_alone(lent.out + room, sizeof lent.out - room)); \
-        room--;                                                     \
-        REFUSED(KDR_NO_ROOM, call);                                 \
-        room++;                                                     \
-        told = 0;                                                   \
-        REFUSED(KDR_NO_ROOM, call);                                 \
-        told = KDR_FIELDS;                                          \
-        room = sizeof lent.out;                                     \
-    } while (0)
-
-/* The call, which is lent just enough, puts those texts in front of the output and tells those
- * numbers; with one byte less of output, or one number less, it is refused with 10. */
-#define BASEX_READS(text, call, ...)                                 \
+/* The call, which is lent just enough, answers that count, puts those texts in front of the output
+ * and tells those numbers; with one byte less of output, or one number less, it is refused with
+ * 10. */
+#define BASEX_READS(count, text, call, ...)                          \
     do {                                                             \
         size_t size = sizeof(text) - 1;                              \
         lend();                                                      \
         room = size;                                                 \
         told = sizeof((uint64_t[]){__VA_ARGS__}) / sizeof(uint64_t); \
-        CHECK((call) == 0);                                          \
+        CHECK((call) == (count));                                    \
         TOLD(__VA_ARGS__);                                           \
         CHECK(memcmp(lent.out, text, size) == 0);                    \
         CHECK(left_alone(lent.out + size, sizeof lent.out - size));  \

@@ -103,12 +103,11 @@ static void check_examples(void)
     TOLD(KDR_Execute, KDR_SHAPE_STATEMENT, 0, 0, 14, 1, 0, 0, 0, 0);
     /* "BaseX write 61 00 FF: 61 FF 00 FF FF 00" */
     lend();
-    CHECK(kdr_basex_write_string(lent.out, 6, 0, TEXT("\x61\x00\xFF"), lent.numbers, 1) == 0);
-    CHECK(lent.numbers[KDR_BASEX_WRITTEN] == 6);
+    CHECK(kdr_basex_write_string(lent.out, 6, 0, TEXT("\x61\x00\xFF")) == 6);
     CHECK(memcmp(lent.out, strung, 6) == 0);
     /* "BaseX read FF 41 00: 13"; "BaseX read FF: 1", which is not marked, and runs here */
-    REFUSED(KDR_BAD_ESCAPE, kdr_basex_string_at(bad_escape, 3, 0, lent.numbers, 2));
-    REFUSED(KDR_MORE_BYTES, kdr_basex_string_at(bad_escape, 1, 0, lent.numbers, 2));
+    REFUSED(KDR_BAD_ESCAPE, kdr_basex_string_at(bad_escape, 3, 0, lent.numbers, 1));
+    REFUSED(KDR_MORE_BYTES, kdr_basex_string_at(bad_escape, 1, 0, lent.numbers, 1));
 }
 
 /* The refusals' numbers, and the answer convention at its edges. */

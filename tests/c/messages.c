@@ -257,7 +257,7 @@ static void check_options(void)
     TOLD(0xFFFFFFFF, 28, 0);
     lend();
     CHECK(kdr_option(bytes, n, 8, 20, 2, lent.numbers, KDR_OPTION_FIELDS) == 0);
-    CHECK(kdr_option(bytes, n, 8, 20, 0, lent.numbers, KDR_OPTION_FIELDS - 1) == 0);
+    REFUSED(KDR_NO_ROOM, kdr_option(bytes, n, 8, 20, 0, lent.numbers, KDR_OPTION_FIELDS - 1));
     CHECK(kdr_option(bytes, n, 9, 19, 0, lent.numbers, KDR_OPTION_FIELDS) == 0);
     CHECK(kdr_option(bytes, n, SIZE_MAX, SIZE_MAX, 0, lent.numbers, KDR_OPTION_FIELDS) == 0);
     CHECK(kdr_option(NULL, 0, 0, 0, SIZE_MAX, NULL, 0) == 0);

@@ -23,7 +23,8 @@ static void check_counts(void)
     CHECK(kdr_typed_item_parts(20468) == 3);
     CHECK(kdr_typed_item_url_parts(10226, 1) == 1 && kdr_typed_item_url_parts(10227, 1) == 2);
     CHECK(kdr_typed_item_url_parts(0, 10227) == 1 && kdr_typed_item_url_parts(1, 10227) == 2);
-    CHECK(kdr_typed_item_url_parts(0, 10228) == 0 && kdr_typed_item_url_parts(0, SIZE_MAX) == 0);
+    REFUSED(KDR_NO_ENCODING, kdr_typed_item_url_parts(0, 10228));
+    REFUSED(KDR_NO_ENCODING, kdr_typed_item_url_parts(0, SIZE_MAX));
     CHECK(!kdr_refused(kdr_statement_parts(SIZE_MAX)) && !kdr_refused(kdr_item_parts(SIZE_MAX)));
 }
 

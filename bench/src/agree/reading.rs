@@ -44,8 +44,8 @@ fn compare_pairs(input: &Input, pairs: &Pairs) -> Result<(), Disagreement> {
         [u64::from(id), start, value.len() as u64, FILL]
     });
     let beyond = [pairs.count(), pairs.count() + 1, usize::MAX];
-    let calls = (0..).zip(found.map(|pair| (1, pair)));
-    for (k, expected) in calls.chain(beyond.map(|k| (k, (0, nothing)))) {
+    let calls = (0..).zip(found.map(|pair| (Ok(1), pair)));
+    for (k, expected) in calls.chain(beyond.map(|k| (k, (Ok(0), nothing)))) {
         let mut lent = nothing;
         let answer = library::option(bytes, region, k, &mut lent);
         if (answer, lent) != expected {
@@ -68,6 +68,20 @@ pub fn bad_calls() -> Result<(), Disagreement> {
                 "side {side}, {len} bytes, {room} fields: expected Err({refusal}) and no change\n\
                  library: {answer:?} {lent:?}"
             ));
+        }
+    }
+    Ok(())
+}
+
+/// Too few numbers lent for an option are 10; where there is none, none are needed.
+pub fn bad_option_calls() -> Result<(), Disagreement> {
+    let pair = [0, 0, 0, 1, 0, 0, 0, 0, 1, b'x'];
+    let calls = [(0, 0, Err(10)), (0, 2, Err(10)), (1, 0, Ok(0)), (1, 2, Ok(0))];
+    for (k, room, expected) in calls {
+        let mut lent = [FILL; 3];
+        let answer = library::option(&pair, (0, pair.len()), k, &mut lent[..room]);
+        if answer != expected || lent != [FILL; 3] {
+            return Err(format!("option {k}, {room} fields: {answer:?} {lent:?}"));
         }
     }
     Ok(())

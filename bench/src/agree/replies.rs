@@ -1,9 +1,9 @@
 //! BaseX responses, written item by item and then the end; a sound one gives its bytes.
 
-use super::told::{both, rooms};
+use super::told::{both_write, rooms};
 use super::{hex, Disagreement, Tally};
 use crate::called::basex as called;
-use crate::library::basex::{self as library, WRITTEN};
+use crate::library::basex as library;
 use bench::inputs::basex::{known, responses, Answered, Listed};
 
 pub fn compare(tally: &mut Tally) -> Result<(), Disagreement> {
@@ -26,15 +26,15 @@ pub fn compare(tally: &mut Tally) -> Result<(), Disagreement> {
 fn compare_item(kind: u8, at: usize, item: &Listed, tally: &mut Tally) -> End {
     let Listed { id, uri, text } = item;
     let mut call = |room, at| {
-        let answer = both(
+        let answer = both_write(
             room,
-            |out| called::write_item(out, at, kind, *id, uri, text).map(written),
-            |out, told| library::write_item(out, at, kind, *id, uri, text, told),
-            |told| at..at + told[0] as usize,
+            at,
+            |out| called::write_item(out, at, kind, *id, uri, text),
+            |out| library::write_item(out, at, kind, *id, uri, text),
             || format!("writing at {at} to {kind:02X} {item:?}"),
         )?;
         tally.items_written.add(answer.map(|_| (*id).into()));
-        Ok(answer.map(|[count]| at + count as usize))
+        Ok(answer.map(|count| at + count))
     };
     in_rooms(at, at + 3 + 2 * (uri.len() + text.len()), &mut call)
 }
@@ -43,15 +43,15 @@ fn compare_end(answered: &Answered, at: usize, tally: &mut Tally) -> End {
     let Answered { kind, status, error, .. } = answered;
     let (kind, texts) = (*kind, answered.texts());
     let mut call = |room, at| {
-        let answer = both(
+        let answer = both_write(
             room,
-            |out| called::write_end(out, at, kind, texts, *status, error).map(written),
-            |out, told| library::write_end(out, at, kind, texts, *status, error, told),
-            |told| at..at + told[0] as usize,
+            at,
+            |out| called::write_end(out, at, kind, texts, *status, error),
+            |out| library::write_end(out, at, kind, texts, *status, error),
             || format!("writing at {at} {:?} {:?}", texts.map(hex), (kind, status, hex(error))),
         )?;
         tally.ends_written.add(answer.map(|_| known(kind).map_or(0, |row| row.0.into())));
-        Ok(answer.map(|[count]| at + count as usize))
+        Ok(answer.map(|count| at + count))
     };
     in_rooms(at, at + 5 + 2 * (texts.concat().len() + error.len()), &mut call)
 }
@@ -71,10 +71,6 @@ fn in_rooms(at: usize, most: usize, call: &mut dyn FnMut(usize, usize) -> End) -
     Ok(end)
 }
 
-fn written(count: usize) -> [u64; WRITTEN] {
-    [count as u64]
-}
-
 /// A response that the library writes, item after item.
 pub struct Writer {
     pub kind: u8,
@@ -84,18 +80,16 @@ pub struct Writer {
 
 impl Writer {
     pub fn item(&mut self, id: u8, uri: &[u8], text: &[u8]) -> Result<usize, u8> {
-        let mut told = [0; WRITTEN];
         let Self { kind, out, at } = self;
-        let answer = library::write_item(out, *at, *kind, id, uri, text, &mut told);
-        *at += told[0] as usize;
+        let answer = library::write_item(out, *at, *kind, id, uri, text);
+        *at += answer.unwrap_or(0);
         answer
     }
 
     pub fn end(&mut self, texts: [&[u8]; 2], status: u8, error: &[u8]) -> Result<usize, u8> {
-        let mut told = [0; WRITTEN];
         let Self { kind, out, at } = self;
-        let answer = library::write_end(out, *at, *kind, texts, status, error, &mut told);
-        *at += told[0] as usize;
+        let answer = library::write_end(out, *at, *kind, texts, status, error);
+        *at += answer.unwrap_or(0);
         answer
     }
 }
@@ -107,7 +101,7 @@ fn whole(answered: &Answered) -> Result<(), Disagreement> {
     let items = answered.items.iter().map(|Listed { id, uri, text }| (*id, uri, text));
     let mut answers: Vec<_> = items.map(|(id, uri, text)| writer.item(id, uri, text)).collect();
     answers.push(writer.end(answered.texts(), answered.status, &answered.error));
-    match answers.iter().all(|&answer| answer == Ok(0)) && writer.out == bytes {
+    match answers.iter().copied().sum::<Result<_, _>>() == Ok(bytes.len()) && writer.out == bytes {
         true => Ok(()),
         false => Err(format!("{answers:?} {}, not {answered:?}", hex(&writer.out))),
     }

@@ -1,31 +1,32 @@
 //! BaseX responses: read, walked item by item and written again.
 
 use super::replies;
-use super::told::{both, rooms, Answer};
+use super::told::{both, rooms, too_few_numbers, Answer, FILL};
 use super::{hex, Disagreement, Tally};
 use crate::called::basex as called;
 use crate::library::basex::{self as library, ITEM, RESPONSE};
-use bench::inputs::basex::{known, responses_read, FULL};
-use bench::plain::refusal::NO_ROOM;
+use bench::inputs::basex::{known, responses_read, FULL, QUERY, RESULTS};
+use bench::plain::refusal::{BAD_ESCAPE, MORE_NEEDED, NOT_ALLOWED, NO_ROOM, UNKNOWN};
 
 pub fn compare(tally: &mut Tally) -> Result<(), Disagreement> {
     for (kind, bytes) in responses_read() {
         // No text is longer than its string.
         let answer = compare_reading(kind, &bytes, bytes.len(), tally)?;
-        for room in rooms(answer.map(|told| stored(&told))) {
+        for room in rooms(answer.map(|(_, told)| stored(&told))) {
             let _ = compare_reading(kind, &bytes, room, tally)?;
         }
-        if let Ok(told) = answer {
-            written_again(kind, &bytes, &told)?;
+        if let Ok((count, told)) = answer {
+            written_again(kind, &bytes[..count], &told)?;
         }
-        compare_items(&bytes, tally)?;
+        compare_items(kind, &bytes, tally)?;
     }
-    too_few_numbers()
+    few_numbers()?;
+    few_numbers_of_items()
 }
 
 /// The bytes of all texts.
 fn stored(told: &[u64; RESPONSE]) -> usize {
-    let [first, second, _, listed, _, error, _] = told;
+    let [first, second, _, listed, _, error] = told;
     (first + second + listed + error) as usize
 }
 
@@ -39,10 +40,10 @@ fn compare_reading(
         room,
         |out| {
             let mut told = [0; RESPONSE];
-            called::read_response(kind, bytes, out, &mut told).map(|()| told)
+            called::read_response(kind, bytes, out, &mut told).map(|count| (count, told))
         },
         |out, told| library::read_response(kind, bytes, out, told),
-        |told| 0..stored(told),
+        |_, told| 0..stored(told),
         || format!("reading a response to {kind:02X}: {}", hex(bytes)),
     )?;
     tally.responses_read.add(answer.map(|_| known(kind).map_or(0, |row| row.0.into())));
@@ -50,37 +51,34 @@ fn compare_reading(
 }
 
 /// Items from the front up to the end of them or to a refusal, and at places behind the bytes, as
-/// in RESULTS and as in FULL, whatever the bytes are.
-fn compare_items(bytes: &[u8], tally: &mut Tally) -> Result<(), Disagreement> {
-    for full in [false, true] {
+/// in RESULTS and as in FULL, whatever the bytes are; and as in what they are read for.
+fn compare_items(kind: u8, bytes: &[u8], tally: &mut Tally) -> Result<(), Disagreement> {
+    let behind = [bytes.len(), bytes.len() + 1, usize::MAX];
+    let other = Some(kind).filter(|kind| ![RESULTS, FULL].contains(kind));
+    for kind in [RESULTS, FULL].into_iter().chain(other) {
         let mut at = 0;
-        while let Ok([1, id, _, _, next]) = compare_item(full, bytes, at)? {
+        while let Ok((count @ 1.., [id, ..])) = compare_item(kind, bytes, at)? {
             tally.items.add(Ok(id as u32));
-            at = next as usize;
+            at += count;
         }
-        for place in [at, bytes.len(), bytes.len() + 1, usize::MAX] {
-            let answer = compare_item(full, bytes, place)?;
-            tally.items.add(answer.map(|[_, id, ..]| id as u32));
+        for place in [at].into_iter().chain(behind) {
+            let answer = compare_item(kind, bytes, place)?;
+            tally.items.add(answer.map(|(_, [id, ..])| id as u32));
         }
     }
     Ok(())
 }
 
-/// 1 and what is told of an item, or 0 for the end of them.
-fn compare_item(full: bool, bytes: &[u8], at: usize) -> Result<Answer<5>, Disagreement> {
-    const FILL: u64 = 99_999_999_999;
+/// The bytes of an item and what is told of it, or zeros for the end of them.
+fn compare_item(kind: u8, bytes: &[u8], at: usize) -> Result<Answer<ITEM>, Disagreement> {
     let (mut plain, mut numbers) = ([FILL; ITEM], [FILL; ITEM + 1]);
-    let expected = called::item(full, bytes, at, &mut plain);
-    let answer = library::item(full, bytes, at, &mut numbers);
-    let [id, uri, text, next, behind] = numbers;
-    let alike = plain == [id, uri, text, next] && behind == FILL;
-    match answer == expected.map(|item| usize::from(!item)) && alike {
-        true => Ok(expected.map(|item| match item {
-            true => [1, id, uri, text, next],
-            false => [0; 5],
-        })),
+    let expected = called::item(kind, bytes, at, &mut plain);
+    let answer = library::item(kind, bytes, at, &mut numbers);
+    let [id, uri, text, behind] = numbers;
+    match answer == expected && plain == [id, uri, text] && behind == FILL {
+        true => Ok(answer.map(|count| (count, if count == 0 { [0; ITEM] } else { plain }))),
         false => Err(format!(
-            "item at {at}, FULL {full}, plain {expected:?} {plain:?}, \
+            "item at {at} to {kind:02X}, plain {expected:?} {plain:?}, \
              library {answer:?} {numbers:?}: {}",
             hex(bytes)
         )),
@@ -90,45 +88,63 @@ fn compare_item(full: bool, bytes: &[u8], at: usize) -> Result<Answer<5>, Disagr
 /// What was read is written as the same bytes, item by item.
 fn written_again(kind: u8, bytes: &[u8], told: &[u64; RESPONSE]) -> Result<(), Disagreement> {
     let mut out = vec![0; stored(told)];
-    let mut numbers = [0; RESPONSE];
-    let _ = library::read_response(kind, bytes, &mut out, &mut numbers);
-    let [first, second, items, listed, status, _, read] = numbers.map(|number| number as usize);
+    let _ = library::read_response(kind, bytes, &mut out, &mut [0; RESPONSE]);
+    let [first, second, items, listed, status, _] = told.map(|number| number as usize);
     let (first, rest) = out.split_at(first);
     let (second, rest) = rest.split_at(second);
     let (mut listed, error) = rest.split_at(listed);
-    let mut writer = replies::Writer { kind, out: vec![0; read], at: 0 };
+    let mut writer = replies::Writer { kind, out: vec![0; bytes.len()], at: 0 };
     let (mut at, mut answers) = (0, vec![]);
     for _ in 0..items {
-        let [_, id, uri, text, next] = compare_item(kind == FULL, bytes, at)?.unwrap_or_default();
+        let (count, [id, uri, text]) = compare_item(kind, bytes, at)?.unwrap_or_default();
         let (uri, rest) = listed.split_at(uri as usize);
         let (text, rest) = rest.split_at(text as usize);
         answers.push(writer.item(id as u8, uri, text));
-        (listed, at) = (rest, next as usize);
+        (listed, at) = (rest, at + count);
     }
     answers.push(writer.end([first, second], status as u8, error));
-    match answers.iter().all(|&answer| answer == Ok(0)) && writer.out == bytes[..read] {
+    match answers.iter().copied().sum::<Result<_, _>>() == Ok(bytes.len()) && writer.out == bytes {
         true => Ok(()),
         false => Err(format!("{answers:?}, to {kind:02X} read and written: {}", hex(bytes))),
     }
 }
 
-/// With too few numbers lent, 10 at once, and nothing is stored.
-fn too_few_numbers() -> Result<(), Disagreement> {
-    let (mut out, mut told) = ([7; 9], [9; RESPONSE]);
-    let mut answers = vec![
-        library::write_item(&mut out, 0, 1, 0, b"u", b"t", &mut []),
-        library::write_end(&mut out, 0, 1, [b"a"; 2], 2, b"e", &mut []),
+/// With too few numbers lent to the reading, 10 behind every other refusal.
+fn few_numbers() -> Result<(), Disagreement> {
+    let refused: [(u8, &[u8], u8); 8] = [
+        (0x01, b"", MORE_NEEDED),
+        (0x01, b"a\0\0", UNKNOWN),
+        (QUERY, b"a\0", MORE_NEEDED),
+        (QUERY, b"a\0\x02", NOT_ALLOWED),
+        (QUERY, b"\xFFa", BAD_ESCAPE),
+        (QUERY, b"a\0\0", NO_ROOM),
+        (QUERY, b"\0\0", NO_ROOM),
+        (FULL, b"\x0Cu\0t\0\0\0", NO_ROOM),
     ];
-    for bytes in [&b"a\0\0"[..], b"", b"\xFFa", b"\x07\0\0\0"] {
-        let reading = (0..RESPONSE).map(|lent| (lent, 0));
-        for (lent, kind) in reading.clone().chain(reading.map(|(lent, _)| (lent, 1))) {
-            answers.push(library::read_response(kind, bytes, &mut out, &mut told[..lent]));
-        }
-        answers.extend((0..ITEM).map(|lent| library::item(true, bytes, 0, &mut told[..lent])));
+    for (kind, bytes, number) in refused {
+        too_few_numbers::<RESPONSE>(bytes, number, |out, told| {
+            library::read_response(kind, bytes, out, told)
+        })?;
     }
-    let refused = answers.iter().all(|&answer| answer == Err(NO_ROOM));
-    match refused && out == [7; 9] && told == [9; RESPONSE] {
-        true => Ok(()),
-        false => Err(format!("too few numbers: {answers:?} {out:?} {told:?}")),
+    Ok(())
+}
+
+/// The same of the call for an item; the end of the items needs no numbers.
+fn few_numbers_of_items() -> Result<(), Disagreement> {
+    let refused: [(u8, &[u8], u8); 7] = [
+        (0x01, b"", UNKNOWN),
+        (QUERY, b"", NOT_ALLOWED),
+        (FULL, b"", MORE_NEEDED),
+        (FULL, b"\x06a\0", NOT_ALLOWED),
+        (FULL, b"\x07\xFFa", BAD_ESCAPE),
+        (FULL, b"\x07a\0", NO_ROOM),
+        (RESULTS, b"\x07\0", NO_ROOM),
+    ];
+    for (kind, bytes, number) in refused {
+        too_few_numbers::<ITEM>(bytes, number, |_, told| library::item(kind, bytes, 0, told))?;
+    }
+    match library::item(FULL, b"\0", 0, &mut []) {
+        Ok(0) => Ok(()),
+        answer => Err(format!("the end of the items, no number lent: {answer:?}")),
     }
 }

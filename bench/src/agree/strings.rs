@@ -1,12 +1,13 @@
 //! BaseX strings: the library against both plain ways, every answer and every byte of the output
 //! and behind it; and what was written is decoded again.
 
+use super::told::too_few_numbers;
 use super::writing::pattern;
 use super::{hex, Disagreement, Tally};
-use crate::library::basex::{self as library, DECODED, WRITTEN};
+use crate::library::basex::{self as library, DECODED};
 use bench::inputs::strings::{readings, spellings, Reading, Spelling};
 use bench::plain::basex::{bytes, runs, Place};
-use bench::plain::refusal::NO_ROOM;
+use bench::plain::refusal::{BAD_ESCAPE, MORE_NEEDED, NO_ROOM};
 use std::fmt::Debug;
 
 /// Bytes behind the lent output that nobody may touch.
@@ -21,7 +22,8 @@ pub fn compare(tally: &mut Tally) -> Result<(), Disagreement> {
         let answer = compare_decoding(&reading)?;
         tally.strings_decoded.add(answer.map(|_| 0));
     }
-    too_few_numbers()
+    few_numbers()?;
+    told_once()
 }
 
 fn compare_writing(spelling: &Spelling) -> Result<Result<usize, u8>, Disagreement> {
@@ -102,24 +104,33 @@ fn same<A: Copy + Debug + PartialEq>(
     }
 }
 
-/// With too few numbers lent, 10 at once, and nothing is stored.
-fn too_few_numbers() -> Result<(), Disagreement> {
-    let mut out = [7; 9];
-    let mut told = [9; DECODED + 1];
-    let mut answers = vec![library::spell(&mut out, 0, b"a", &mut told[..WRITTEN - 1])];
-    for lent in 0..DECODED {
-        for string in [&b"a\0"[..], b"a", b"\xFFa"] {
-            answers.push(library::read(string, 0, &mut out, 0, &mut told[..lent]));
-        }
+/// With no number lent, 10 behind every other refusal.
+fn few_numbers() -> Result<(), Disagreement> {
+    let refused: [(&[u8], u8); 5] = [
+        (b"a", MORE_NEEDED),
+        (b"\xFF", MORE_NEEDED),
+        (b"\xFFa", BAD_ESCAPE),
+        (b"a\0", NO_ROOM),
+        (b"\0", NO_ROOM),
+    ];
+    for (bytes, number) in refused {
+        let judge = |_: &mut [u8], told: &mut [u64]| library::string_at(bytes, 0, told);
+        too_few_numbers::<DECODED>(bytes, number, judge)?;
+        let decode = |out: &mut [u8], told: &mut [u64]| library::read(bytes, 0, out, 0, told);
+        too_few_numbers::<DECODED>(bytes, number, decode)?;
     }
-    let refused = answers.iter().all(|&answer| answer == Err(NO_ROOM));
-    // A refused string tells nothing, and numbers behind those that are told stay as they were.
+    Ok(())
+}
+
+/// A refused string tells nothing, and a sound one no number behind its length.
+fn told_once() -> Result<(), Disagreement> {
+    let (mut out, mut told) = ([7; 9], [9; DECODED + 1]);
     let bad = library::read(b"\xFFa", 0, &mut out, 0, &mut told);
-    if !refused || bad.is_ok() || out != [7; 9] || told != [9; DECODED + 1] {
-        return Err(format!("too few numbers: {answers:?} {bad:?} {out:?} {told:?}"));
+    if bad.is_ok() || out != [7; 9] || told != [9; DECODED + 1] {
+        return Err(format!("refused: {bad:?} {out:?} {told:?}"));
     }
     let sound = library::read(b"ab\0", 0, &mut out, 0, &mut told);
-    match sound == Ok(0) && told == [2, 3, 9] {
+    match sound == Ok(3) && told == [2, 9] {
         true => Ok(()),
         false => Err(format!("told {told:?}, {sound:?}")),
     }

@@ -81,7 +81,7 @@ impl Tally {
             self.requests_read.complete(&kinds, &[1, 2, 10, 13]),
             self.requests_written.complete(&kinds, &[2, 8, 10, 11]),
             self.responses_read.complete(&kinds, &[1, 2, 8, 10, 13]),
-            self.items.complete(&ids_and_end, &[1, 8, 13]),
+            self.items.complete(&ids_and_end, &[1, 2, 8, 13]),
             self.items_written.complete(&ids, &[2, 8, 10]),
             self.ends_written.complete(&kinds, &[2, 8, 10]),
         ];

@@ -4,19 +4,18 @@ use crate::library::parts::{told, TOLD};
 use bench::plain::{self, Gathering, Side, What};
 
 #[inline(never)]
-pub fn statement_parts(bytes: usize) -> u64 {
-    plain::statement_parts(bytes) as u64
+pub fn statement_parts(bytes: usize) -> usize {
+    plain::statement_parts(bytes)
 }
 
 #[inline(never)]
-pub fn item_parts(bytes: usize) -> u64 {
-    plain::item_parts(bytes) as u64
+pub fn item_parts(bytes: usize) -> usize {
+    plain::item_parts(bytes)
 }
 
-/// 0 for a URL that leaves no room.
 #[inline(never)]
-pub fn typed_item_parts(bytes: usize, url: Option<usize>) -> u64 {
-    plain::typed_item_parts(bytes, url).unwrap_or(0) as u64
+pub fn typed_item_parts(bytes: usize, url: Option<usize>) -> Result<usize, u8> {
+    plain::typed_item_parts(bytes, url)
 }
 
 #[inline(never)]

@@ -1,4 +1,4 @@
-//! BaseX. An answer is 0 or a refusal; counts and places are told as numbers. Strings stand here.
+//! BaseX. An answer is a count of bytes or a refusal. Strings stand here.
 
 mod requests;
 mod responses;
@@ -9,16 +9,14 @@ pub use responses::{item, read_response, write_end, write_item, ITEM, RESPONSE};
 use super::answer;
 use bench::plain::basex::Place;
 
-/// How many numbers are told of what was written, and of a string that was judged or decoded.
-pub const WRITTEN: usize = 1;
-pub const DECODED: usize = 2;
+/// How many numbers are told of a string that was judged or decoded: its length, decoded.
+pub const DECODED: usize = 1;
 
 #[rustfmt::skip]
 extern "C" {
     fn kdr_basex_string_len(text: *const u8, text_len: usize) -> u64;
     fn kdr_basex_write_string(
         out: *mut u8, out_len: usize, at: usize, text: *const u8, text_len: usize,
-        told: *mut u64, told_len: usize,
     ) -> u64;
     fn kdr_basex_string_at(
         bytes: *const u8, len: usize, at: usize, told: *mut u64, told_len: usize,
@@ -35,38 +33,30 @@ pub fn string_len(text: &[u8]) -> usize {
     unsafe { kdr_basex_string_len(text.as_ptr(), text.len()) as usize }
 }
 
-/// As `write_string`, with the numbers lent; the answer is 0.
-#[rustfmt::skip]
-pub fn spell(out: &mut [u8], at: usize, text: &[u8], told: &mut [u64]) -> Result<usize, u8> {
-    // SAFETY: as in `library::write`.
-    answer(unsafe {
-        kdr_basex_write_string(
-            out.as_mut_ptr(), out.len(), at, text.as_ptr(), text.len(),
-            told.as_mut_ptr(), told.len(),
-        )
-    })
-}
-
 /// The text as a string, from `at` on; the answer is the bytes written.
 pub fn write_string(out: &mut [u8], at: usize, text: &[u8]) -> Result<usize, u8> {
-    let mut told = [0; WRITTEN];
-    spell(out, at, text, &mut told)?;
-    Ok(told[0] as usize)
+    let (out, room) = (out.as_mut_ptr(), out.len());
+    // SAFETY: as in `library::write`.
+    answer(unsafe { kdr_basex_write_string(out, room, at, text.as_ptr(), text.len()) })
 }
 
-/// The string at `at`, of which nothing is stored.
+/// As `judge`, with the numbers lent; the answer is the bytes that the string takes.
 #[rustfmt::skip]
-pub fn judge(bytes: &[u8], at: usize) -> Result<Place, u8> {
-    let mut told = [0; DECODED];
+pub fn string_at(bytes: &[u8], at: usize, told: &mut [u64]) -> Result<usize, u8> {
     // SAFETY: as in `library::read`.
     answer(unsafe {
         kdr_basex_string_at(bytes.as_ptr(), bytes.len(), at, told.as_mut_ptr(), told.len())
-    })?;
-    let [len, next] = told.map(|number| number as usize);
-    Ok(Place { len, next })
+    })
 }
 
-/// As `decode`, with the numbers lent; the answer is 0.
+/// The string at `at`, of which nothing is stored.
+pub fn judge(bytes: &[u8], at: usize) -> Result<Place, u8> {
+    let mut told = [0; DECODED];
+    let count = string_at(bytes, at, &mut told)?;
+    Ok(Place { len: told[0] as usize, next: at + count })
+}
+
+/// As `decode`, with the numbers lent; the answer is the bytes that the string takes.
 #[rustfmt::skip]
 pub fn read(
     bytes: &[u8], at: usize, out: &mut [u8], to: usize, told: &mut [u64],
@@ -83,7 +73,6 @@ pub fn read(
 /// The string at `at`, decoded to `to`.
 pub fn decode(bytes: &[u8], at: usize, out: &mut [u8], to: usize) -> Result<Place, u8> {
     let mut told = [0; DECODED];
-    read(bytes, at, out, to, &mut told)?;
-    let [len, next] = told.map(|number| number as usize);
-    Ok(Place { len, next })
+    let count = read(bytes, at, out, to, &mut told)?;
+    Ok(Place { len: told[0] as usize, next: at + count })
 }

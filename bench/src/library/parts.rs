@@ -35,23 +35,22 @@ extern "C" {
     ) -> u64;
 }
 
-pub fn statement_parts(bytes: usize) -> u64 {
+pub fn statement_parts(bytes: usize) -> Result<usize, u8> {
     // SAFETY: numbers alone.
-    unsafe { kdr_statement_parts(bytes) }
+    answer(unsafe { kdr_statement_parts(bytes) })
 }
 
-pub fn item_parts(bytes: usize) -> u64 {
+pub fn item_parts(bytes: usize) -> Result<usize, u8> {
     // SAFETY: numbers alone.
-    unsafe { kdr_item_parts(bytes) }
+    answer(unsafe { kdr_item_parts(bytes) })
 }
 
-/// 0 for a URL that leaves no room.
-pub fn typed_item_parts(bytes: usize, url: Option<usize>) -> u64 {
+pub fn typed_item_parts(bytes: usize, url: Option<usize>) -> Result<usize, u8> {
     // SAFETY: numbers alone.
-    match url {
+    answer(match url {
         None => unsafe { kdr_typed_item_parts(bytes) },
         Some(url) => unsafe { kdr_typed_item_url_parts(bytes, url) },
-    }
+    })
 }
 
 /// Part `k` of a statement; the answer is the bytes written.

@@ -37,7 +37,7 @@ fn place(bytes: &[u8], part: &[u8]) -> usize {
 fn library((bytes, pairs, k): &Call) -> [u64; 3] {
     let mut fields = [0; 3];
     let region = (place(bytes, pairs.region()), pairs.region().len());
-    library::option(bytes, region, *k, &mut fields);
+    let _ = library::option(bytes, region, *k, &mut fields);
     fields
 }
 

@@ -3,7 +3,7 @@
 use super::rounds::{self, copy, sum};
 use super::table::Row;
 use crate::called::basex as called;
-use crate::library::basex::{self as library, REQUEST, WRITTEN};
+use crate::library::basex::{self as library, REQUEST};
 use bench::inputs::basex::{large_request, small_requests, Asked, BIND, COMMAND, QUERY};
 use bench::inputs::shuffled;
 use bench::plain::basex as plain;
@@ -62,7 +62,7 @@ impl Work {
 
     fn writing(&self, name: String) -> Row {
         let out = RefCell::new(vec![0; longest(&self.bytes)]);
-        let library = || self.write(library_write, &mut out.borrow_mut());
+        let library = || self.write(library::write_request, &mut out.borrow_mut());
         let called = || self.write(called::write_request, &mut out.borrow_mut());
         let inlined = || self.write(plain::write_request, &mut out.borrow_mut());
         let copies =
@@ -85,19 +85,19 @@ impl Work {
     }
 }
 
-/// A sum over what is told.
+/// A sum over the answer and what is told.
 #[inline(always)]
 fn library_read(bytes: &[u8], out: &mut [u8]) -> Result<u64, u8> {
     let mut told = [0; REQUEST];
-    library::read_request(bytes, out, &mut told)?;
-    Ok(told.iter().sum())
+    let count = library::read_request(bytes, out, &mut told)?;
+    Ok(count as u64 + told.iter().sum::<u64>())
 }
 
 #[inline(always)]
 fn called_read(bytes: &[u8], out: &mut [u8]) -> Result<u64, u8> {
     let mut told = [0; REQUEST];
-    called::read_request(bytes, out, &mut told)?;
-    Ok(told.iter().sum())
+    let count = called::read_request(bytes, out, &mut told)?;
+    Ok(count as u64 + told.iter().sum::<u64>())
 }
 
 #[inline(always)]
@@ -105,13 +105,6 @@ fn plain_read(bytes: &[u8], out: &mut [u8]) -> Result<u64, u8> {
     let read = plain::read_request(bytes, out)?;
     let texts: usize = read.texts.iter().map(|text| text.len()).sum();
     Ok(u64::from(read.kind) + (texts + read.read) as u64)
-}
-
-#[inline(always)]
-fn library_write(out: &mut [u8], kind: u8, texts: [&[u8]; 4]) -> Result<usize, u8> {
-    let mut told = [0; WRITTEN];
-    library::write_request(out, kind, texts, &mut told)?;
-    Ok(told[0] as usize)
 }
 
 fn longest(all: &[Vec<u8>]) -> usize {

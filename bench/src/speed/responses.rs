@@ -80,16 +80,15 @@ impl Work {
         })
     }
 
-    /// All items from the first; a sum over what is told of them.
+    /// All items from the first; a sum over the answers and what is told of them.
     #[inline(always)]
     fn walk<W: Way>(&self) -> u64 {
         sum(&self.order, |k| {
-            let full = self.responses[k].kind == FULL;
+            let kind = self.responses[k].kind;
             let (mut at, mut sum) = (0, 0);
-            while let Ok(Some([id, uri, text, next])) = W::item(full, black_box(&self.bytes[k]), at)
-            {
-                sum += id + uri + text;
-                at = next as usize;
+            while let Ok((count @ 1.., told)) = W::item(kind, black_box(&self.bytes[k]), at) {
+                sum += told.iter().sum::<u64>();
+                at += count;
             }
             sum + at as u64
         })

@@ -24,8 +24,7 @@ fn answer(code: u64) -> Result<usize, Refusal> {
     }
 }
 
-/// The numbers that were told, or the refusal.
-fn told<const N: usize>(code: u64, numbers: [u64; N]) -> Result<[usize; N], Refusal> {
-    answer(code)?;
-    Ok(numbers.map(|number| number as usize))
+/// The count that was answered and the numbers that were told, or the refusal.
+fn told<const N: usize>(code: u64, numbers: [u64; N]) -> Result<(usize, [usize; N]), Refusal> {
+    Ok((answer(code)?, numbers.map(|number| number as usize)))
 }

@@ -1,15 +1,33 @@
--- The library's answers as numbers, for programs in C and Rust.
-use mathlib.Core.List.{List}
+-- What a call answers, as a number: a count, or a refusal, which leaves all that was lent as it was.
+use mathlib.Core.List.{List, _++_}
 use Prim.Native.Nat.{ℕ}
 use lib.Dec.{ltb}
+use lib.ListN.{length, drop}
 use Rattle.wire.specs.Bytes.{if}
+use Rattle.wire.specs.declared.Refusal.{Refusal}
 use Rattle.wire.specs.declared.Refusal.the-variants.{NoRoom}
 use Rattle.wire.specs.Refusals.{refusalCode}
 
--- 10 at once where fewer numbers are lent than are told
-abbrev pub lentCode : ℕ → ℕ → ℕ → ℕ
-lentCode told room code = if (ltb room told) (refusalCode NoRoom) code
+-- a count and the numbers that are told with it, or a refusal
+pub data Outcome : Type 0 where
+  counted : ℕ → List ℕ → Outcome
+  refused : Refusal → Outcome
 
--- what is left then in what is lent: what was there
-abbrev pub lentLeft : ℕ → ℕ → List ℕ → List ℕ → List ℕ
-lentLeft told room before after = if (ltb room told) before after
+-- "with 10 last": where fewer numbers are lent than are told
+abbrev pub lent : ℕ → Outcome → Outcome
+lent room (Outcome.refused r) = Outcome.refused r
+lent room (Outcome.counted n told) = if (ltb room (length told)) (Outcome.refused NoRoom) (Outcome.counted n told)
+
+abbrev pub code : Outcome → ℕ
+code (Outcome.refused r) = refusalCode r
+code (Outcome.counted n told) = n
+
+-- the lent numbers then: what is told in front
+abbrev pub toldIn : List ℕ → Outcome → List ℕ
+toldIn d (Outcome.refused r) = d
+toldIn d (Outcome.counted n told) = told ++ drop (length told) d
+
+-- the lent output then: what was stored
+abbrev pub storedIn : List ℕ → List ℕ → Outcome → List ℕ
+storedIn before after (Outcome.refused r) = before
+storedIn before after (Outcome.counted n told) = after

@@ -1,62 +1,79 @@
--- What is told of what was read or written, in front of the lent numbers; nothing where it was refused.
-use mathlib.Core.List.{List, _∷_}
-use Prim.Native.Nat.{ℕ}
-use lib.ListN.{drop}
+-- What each call counts, and what it tells.
+use mathlib.Core.List.{List, [], _∷_}
+use Prim.Native.Nat.{ℕ, _-_}
+use lib.ListN.{length, drop}
+use Rattle.wire.specs.Bytes.{if}
+use Rattle.wire.specs.declared.Refusal.the-variants.{UnknownInstruction, ValueNotAllowed}
 use Rattle.wire.specs.Refusals.{refusalCode}
 use Rattle.basex_string.specs.declared.Spelled.{Spelled}
 use Rattle.basex_string.specs.declared.Spelled.the-variants as spelled
 use Rattle.basex_string.specs.declared.StringAt.{StringAt}
 use Rattle.basex_string.specs.declared.StringAt.the-variants as string-at
+use Rattle.basex_string.specs.Answers.{located, decoded}
+use Rattle.basex_string.specs.Scan as strings
+use Rattle.basex.specs.declared.Found.{Found}
+use Rattle.basex.specs.declared.Found.the-variants.{Known, Unknown}
+use Rattle.basex.specs.Kinds.{findOf, listed, isFull}
 use Rattle.basex_request.specs.declared.Requested.{Requested}
-use Rattle.basex_request.specs.declared.Requested.the-variants as requested
+use Rattle.basex_request.specs.declared.Requested.the-variants as requested-as
+use Rattle.basex_request.specs.Reading.{requested}
+use Rattle.basex_request.specs.Reading as requests
 use Rattle.basex_response.specs.declared.ItemAt.{ItemAt}
 use Rattle.basex_response.specs.declared.ItemAt.the-variants as item-at
 use Rattle.basex_response.specs.declared.Replied.{Replied}
 use Rattle.basex_response.specs.declared.Replied.the-variants as replied
+use Rattle.basex_response.specs.Items.{next, itemAt}
+use Rattle.basex_response.specs.Reading.{answered}
+use Rattle.basex_response.specs.Reading as responses
+use Rattle.basex_c.specs.Codes.{Outcome, lent}
 
--- of what was written, its bytes
+-- the bytes written
 abbrev pub spelledCode : Spelled → ℕ
-spelledCode (spelled.Bytes n) = 0
+spelledCode (spelled.Bytes n) = n
 spelledCode (spelled.Refused r) = refusalCode r
 
-abbrev pub spelledTold : Spelled → List ℕ → List ℕ
-spelledTold (spelled.Bytes n) d = n ∷ drop 1 d
-spelledTold (spelled.Refused r) d = d
+-- the bytes of a string that stands at `at`; told is how long it is, decoded
+abbrev pub stringTold : ℕ → StringAt → Outcome
+stringTold at (string-at.At len behind) = Outcome.counted (behind - at) (len ∷ [])
+stringTold at (string-at.Refused r) = Outcome.refused r
 
--- of one that was read, its bytes and the place behind it
-abbrev pub placeCode : StringAt → ℕ
-placeCode (string-at.At len next) = 0
-placeCode (string-at.Refused r) = refusalCode r
+-- the bytes of a request; told are its kind and how long each of four texts is
+abbrev pub requestTold : Requested → Outcome
+requestTold (requested-as.Read kind a b c d n) = Outcome.counted n (kind ∷ a ∷ b ∷ c ∷ d ∷ [])
+requestTold (requested-as.Refused r) = Outcome.refused r
 
-abbrev pub placeTold : StringAt → List ℕ → List ℕ
-placeTold (string-at.At len next) d = len ∷ next ∷ drop 2 d
-placeTold (string-at.Refused r) d = d
+-- the bytes of a response; told are how long two texts are, the items, how long all their texts are, the status, and how long the error is
+abbrev pub responseTold : Replied → Outcome
+responseTold (replied.Read first second items listed status error n) = Outcome.counted n (first ∷ second ∷ items ∷ listed ∷ status ∷ error ∷ [])
+responseTold (replied.Refused r) = Outcome.refused r
 
--- of a request that was read, its kind, how long each of four texts is, and its bytes
-abbrev pub requestCode : Requested → ℕ
-requestCode (requested.Read kind a b c d n) = 0
-requestCode (requested.Refused r) = refusalCode r
+-- the bytes of an item that stands at `at`; told are its id, and how long its URI and its text are. 0 at the 00 behind the last, and nothing is told
+abbrev pub itemTold : ℕ → ItemAt → Outcome
+itemTold at (item-at.Item id uri text behind) = Outcome.counted (behind - at) (id ∷ uri ∷ text ∷ [])
+itemTold at (item-at.End behind) = Outcome.counted 0 []
+itemTold at (item-at.Refused r) = Outcome.refused r
 
-abbrev pub requestTold : Requested → List ℕ → List ℕ
-requestTold (requested.Read kind a b c e n) d = kind ∷ a ∷ b ∷ c ∷ e ∷ n ∷ drop 6 d
-requestTold (requested.Refused r) d = d
+-- the item that stands at `at` in a response: 2 for a kind that is none, 8 for one without items
+abbrev pub itemIn : Found → List ℕ → ℕ → ItemAt
+itemIn Unknown s at = item-at.Refused UnknownInstruction
+itemIn (Known n reply) s at = if (listed reply) (itemAt (isFull reply) at (length s - at) (next (isFull reply) (drop at s))) (item-at.Refused ValueNotAllowed)
 
--- of a response that was read, how long two texts are, the items, how long all their texts are, the status, how long the error is, and its bytes
-abbrev pub responseCode : Replied → ℕ
-responseCode (replied.Read first second items listed status error n) = 0
-responseCode (replied.Refused r) = refusalCode r
+-- judging the string at `at`, with so many numbers lent
+abbrev pub judging : List ℕ → ℕ → ℕ → Outcome
+judging s at numbers = lent numbers (stringTold at (located (length s) (strings.reading (drop at s))))
 
-abbrev pub responseTold : Replied → List ℕ → List ℕ
-responseTold (replied.Read first second items listed status error n) d = first ∷ second ∷ items ∷ listed ∷ status ∷ error ∷ n ∷ drop 7 d
-responseTold (replied.Refused r) d = d
+-- the same, and decoding it from `to` on into an output of so many bytes
+abbrev pub decoding : List ℕ → ℕ → ℕ → ℕ → ℕ → Outcome
+decoding s at room to numbers = lent numbers (stringTold at (decoded (length s) room to (strings.reading (drop at s))))
 
--- of an item, its id, how long its URI and its text are, and where the next stands; 1 behind the last
-abbrev pub itemCode : ItemAt → ℕ
-itemCode (item-at.Item id uri text next) = 0
-itemCode (item-at.End next) = 1
-itemCode (item-at.Refused r) = refusalCode r
+-- reading a request into an output of so many bytes, with so many numbers lent
+abbrev pub requestRead : List ℕ → ℕ → ℕ → Outcome
+requestRead s room numbers = lent numbers (requestTold (requested (length s) room (requests.reading s)))
 
-abbrev pub itemTold : ItemAt → List ℕ → List ℕ
-itemTold (item-at.Item id uri text next) d = id ∷ uri ∷ text ∷ next ∷ drop 4 d
-itemTold (item-at.End next) d = d
-itemTold (item-at.Refused r) d = d
+-- the same of a response to a request that starts with the byte
+abbrev pub responseRead : ℕ → List ℕ → ℕ → ℕ → Outcome
+responseRead kind s room numbers = lent numbers (responseTold (answered (length s) room (responses.reading kind s)))
+
+-- reading the item at `at` of one, with so many numbers lent
+abbrev pub itemRead : ℕ → List ℕ → ℕ → ℕ → Outcome
+itemRead kind s at numbers = lent numbers (itemTold at (itemIn (findOf kind) s at))

@@ -1,14 +1,14 @@
-// Strings. What is told is judged first: 10 at once where too few numbers are lent, and nothing is
-// stored then.
+// Strings.
 ghost use mathlib.Core.Path.{_≡_};
-ghost use Prim.Native.Nat.{_≤_};
+ghost use Prim.Native.Nat.{_-_, _≤_};
+ghost use lib.Dec.{ltb};
 ghost use lib.ListN.{length, drop};
-ghost use Rattle.wire.specs.Bytes.{placed};
-ghost use Rattle.basex_string.specs.Answers.{spelling, located, decoded, left};
+ghost use Rattle.wire.specs.Bytes.{if, placed};
+ghost use Rattle.basex_string.specs.Answers.{spelling, left};
 ghost use Rattle.basex_string.specs.Scan.{reading};
 ghost use Rattle.basex_string.specs.Strings.{string};
-ghost use Rattle.basex_c.specs.Codes.{lentCode, lentLeft};
-ghost use Rattle.basex_c.specs.Told.{spelledCode, spelledTold, placeCode, placeTold};
+ghost use Rattle.basex_c.specs.Codes.{lent, code, toldIn, storedIn};
+ghost use Rattle.basex_c.specs.Told.{spelledCode, stringTold, judging, decoding};
 use basex_string::Spelled;
 use basex_string::StringAt;
 use wire::Refusal;
@@ -22,61 +22,60 @@ pub extern "C" fn kdr_basex_string_len(text: &[u8]) -> u64
     basex_string::string_len(text) as u64
 }
 
-// How many bytes were written, to the front of the lent numbers.
-pub fn tell_written(told: &mut [u64], w: Spelled) -> u64
-    requires { ⌜ 1 ≤ length (now told) ⌝ }
-    ensures { λ r. ⌜ (r ≡ spelledCode w) × (now (told .exit) ≡ spelledTold w (now (told .entry))) ⌝ }
+pub(crate) fn spelled_code(w: Spelled) -> u64
+    ensures { λ r. ⌜ r ≡ spelledCode w ⌝ }
 {
     match w {
+        Spelled::Bytes(n) => n as u64,
         Spelled::Refused(r) => refusal_code(r),
-        Spelled::Bytes(n) => {
-            told[0] = n as u64;
-            0
-        }
     }
 }
 
-// The text as a string, from `at` on; told is how many bytes it took.
+// The text as a string, from `at` on.
 #[no_mangle]
-pub extern "C" fn kdr_basex_write_string(
-    out: &mut [u8],
-    at: usize,
-    text: &[u8],
-    told: &mut [u64],
-) -> u64
-    ensures { λ r. ⌜ (r ≡ lentCode 1 (length (now (told .entry))) (spelledCode (spelling (length (now (out .entry))) at (now (text .entry))))) × (now (out .exit) ≡ lentLeft 1 (length (now (told .entry))) (now (out .entry)) (placed (now (out .entry)) at (string (now (text .entry))))) × (now (told .exit) ≡ lentLeft 1 (length (now (told .entry))) (now (told .entry)) (spelledTold (spelling (length (now (out .entry))) at (now (text .entry))) (now (told .entry)))) ⌝ }
+pub extern "C" fn kdr_basex_write_string(out: &mut [u8], at: usize, text: &[u8]) -> u64
+    ensures { λ r. ⌜ (r ≡ spelledCode (spelling (length (now (out .entry))) at (now (text .entry)))) × (now (out .exit) ≡ placed (now (out .entry)) at (string (now (text .entry)))) ⌝ }
 {
-    if told.len() < 1 {
-        return refusal_code(Refusal::NoRoom);
-    }
-    tell_written(told, basex_string::write_string(out, at, text))
+    spelled_code(basex_string::write_string(out, at, text))
 }
 
-// Two numbers to the front of the lent ones.
-fn tell(told: &mut [u64], place: StringAt) -> u64
-    requires { ⌜ 2 ≤ length (now told) ⌝ }
-    ensures { λ r. ⌜ (r ≡ placeCode place) × (now (told .exit) ≡ placeTold place (now (told .entry))) ⌝ }
+// How many bytes stand from `at` up to the place behind them; no reader answers one ahead of `at`.
+pub(crate) fn span(at: usize, behind: usize) -> u64
+    ensures { λ r. ⌜ r ≡ behind - at ⌝ }
+{
+    if behind < at { 0 } else { (behind - at) as u64 }
+}
+
+// How much of the output a call is lent: none where fewer numbers are lent than it has to tell. It
+// then stores nothing, and its answer is 10 where nothing else is refused.
+pub(crate) fn usable(out: usize, told: usize, lent: usize) -> usize
+    ensures { λ r. ⌜ (r ≡ if (ltb lent told) 0 out) × (r ≤ out) ⌝ }
+{
+    if lent < told { 0 } else { out }
+}
+
+// One number to the front of the lent ones.
+fn tell(told: &mut [u64], at: usize, place: StringAt) -> u64
+    ensures { λ r. ⌜ (r ≡ code (lent (length (now (told .entry))) (stringTold at place))) × (now (told .exit) ≡ toldIn (now (told .entry)) (lent (length (now (told .entry))) (stringTold at place))) ⌝ }
 {
     match place {
         StringAt::Refused(r) => refusal_code(r),
         StringAt::At { len, next } => {
+            if told.len() < 1 {
+                return refusal_code(Refusal::NoRoom);
+            }
             told[0] = len as u64;
-            told[1] = next as u64;
-            0
+            span(at, next)
         }
     }
 }
 
-// The string that starts at `at`, judged; told are how many bytes it has and where the next field
-// starts.
+// The string that starts at `at`, judged; told is how many bytes it has, decoded.
 #[no_mangle]
 pub extern "C" fn kdr_basex_string_at(bytes: &[u8], at: usize, told: &mut [u64]) -> u64
-    ensures { λ r. ⌜ (r ≡ lentCode 2 (length (now (told .entry))) (placeCode (located (length (now (bytes .entry))) (reading (drop at (now (bytes .entry))))))) × (now (told .exit) ≡ lentLeft 2 (length (now (told .entry))) (now (told .entry)) (placeTold (located (length (now (bytes .entry))) (reading (drop at (now (bytes .entry))))) (now (told .entry)))) ⌝ }
+    ensures { λ r. ⌜ (r ≡ code (judging (now (bytes .entry)) at (length (now (told .entry))))) × (now (told .exit) ≡ toldIn (now (told .entry)) (judging (now (bytes .entry)) at (length (now (told .entry))))) ⌝ }
 {
-    if told.len() < 2 {
-        return refusal_code(Refusal::NoRoom);
-    }
-    tell(told, basex_string::string_at(bytes, at))
+    tell(told, at, basex_string::string_at(bytes, at))
 }
 
 // The same, and its bytes put into the output from `to` on.
@@ -88,10 +87,12 @@ pub extern "C" fn kdr_basex_decode(
     to: usize,
     told: &mut [u64],
 ) -> u64
-    ensures { λ r. ⌜ (r ≡ lentCode 2 (length (now (told .entry))) (placeCode (decoded (length (now (bytes .entry))) (length (now (out .entry))) to (reading (drop at (now (bytes .entry))))))) × (now (out .exit) ≡ lentLeft 2 (length (now (told .entry))) (now (out .entry)) (left (now (out .entry)) to (reading (drop at (now (bytes .entry)))))) × (now (told .exit) ≡ lentLeft 2 (length (now (told .entry))) (now (told .entry)) (placeTold (decoded (length (now (bytes .entry))) (length (now (out .entry))) to (reading (drop at (now (bytes .entry))))) (now (told .entry)))) ⌝ }
+    ensures { λ r. ⌜ (r ≡ code (decoding (now (bytes .entry)) at (length (now (out .entry))) to (length (now (told .entry))))) × (now (out .exit) ≡ storedIn (now (out .entry)) (left (now (out .entry)) to (reading (drop at (now (bytes .entry))))) (decoding (now (bytes .entry)) at (length (now (out .entry))) to (length (now (told .entry))))) × (now (told .exit) ≡ toldIn (now (told .entry)) (decoding (now (bytes .entry)) at (length (now (out .entry))) to (length (now (told .entry))))) ⌝ }
 {
-    if told.len() < 2 {
-        return refusal_code(Refusal::NoRoom);
-    }
-    tell(told, basex_string::decode(bytes, at, out, to))
+    let room = usable(out.len(), 1, told.len());
+    tell(
+        told,
+        at,
+        basex_string::decode(bytes, at, &mut out[..room], to),
+    )
 }

@@ -4,6 +4,7 @@ use mathlib.Core.List.{List}
 use Prim.Native.Nat.{ℕ}
 use lib.Dec.{leb}
 use lib.ListN.{length, getElem?}
+use Rattle.wire.specs.Refusals.{refusalCode}
 use Rattle.sedna.specs.Allowed.{formatAllowed, allowed}
 use Rattle.sedna.specs.Message.{Url, Body, Message}
 use Rattle.sedna_write.specs.declared.Written.{Written}
@@ -12,10 +13,10 @@ use Rattle.fragments.specs.declared.Parts.the-variants as parts
 use Rattle.fragments.specs.Cut.{cutStatement, cutItem, cutTypedItem}
 use Rattle.fragments.specs.Part.{partWritten, partLeft}
 
--- how many parts; 0 where the URL leaves no room, since no cut has 0 parts
+-- how many parts, or the refusal
 abbrev pub partsCode : Parts → ℕ
 partsCode (parts.Are n) = n
-partsCode (parts.Refused r) = 0
+partsCode (parts.Refused r) = refusalCode r
 
 -- part k of a statement, in an output of so many bytes
 abbrev pub statementPart : ℕ → List ℕ → ℕ → ℕ → Written

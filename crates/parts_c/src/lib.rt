@@ -9,6 +9,7 @@ ghost use Rattle.sedna_c.specs.Codes.{writtenCode};
 ghost use Rattle.parts_c.specs.Parts.{partsCode, statementPart, itemPart, typedItemPart, typedItemUrlPart, cutLeft};
 use fragments::Parts;
 use sedna_c::written_code;
+use wire::refusal_code;
 
 mod joining;
 
@@ -33,14 +34,14 @@ pub extern "C" fn kdr_typed_item_parts(n: usize) -> u64
     fragments::typed_item_parts(n) as u64
 }
 
-// 0 for a URL that leaves no room.
+// 11 for a URL that leaves no room.
 #[no_mangle]
 pub extern "C" fn kdr_typed_item_url_parts(n: usize, url: usize) -> u64
     ensures { λ r. ⌜ r ≡ partsCode (urlParts n url) ⌝ }
 {
     match fragments::typed_item_url_parts(n, url) {
         Parts::Are(count) => count as u64,
-        Parts::Refused(_) => 0,
+        Parts::Refused(r) => refusal_code(r),
     }
 }
 

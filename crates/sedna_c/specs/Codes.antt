@@ -62,10 +62,10 @@ abbrev pub fieldsLeft : Reading → List ℕ → List ℕ
 fieldsLeft (read.Refused r) d = d
 fieldsLeft (read.Message i p n) d = if (ltb (length d) 10) d (fieldsOf i p ++ drop 10 d)
 
--- 1 where there is the option and the lent fields have room for three numbers, else 0
+-- 1 where there is the option, or 10 where the lent fields have no room for three numbers; 0 where there is none
 abbrev pub optionCode : OptionPlace → ℕ → ℕ
 optionCode option.Missing room = 0
-optionCode (option.At id v) room = if (ltb room 3) 0 1
+optionCode (option.At id v) room = if (ltb room 3) (refusalCode NoRoom) 1
 
 abbrev pub optionLeft : OptionPlace → List ℕ → List ℕ
 optionLeft option.Missing d = d

@@ -16,6 +16,7 @@ use sedna_read::Places;
 use sedna_read::UrlPlace;
 use sedna_write::Written;
 use wire::Place;
+use wire::Refusal;
 use wire::refusal_code;
 
 mod sessions;
@@ -112,7 +113,8 @@ fn store_places(fields: &mut [u64], instruction: u32, places: Places)
     }
 }
 
-// The option number k among the pairs from start on: its id and its value's place.
+// The option number k among the pairs from start on: 1, and its id and its value's place; 0 where
+// there is none.
 #[no_mangle]
 pub extern "C" fn kdr_option(
     bytes: &[u8],
@@ -127,7 +129,7 @@ pub extern "C" fn kdr_option(
         OptionPlace::Missing => 0,
         OptionPlace::At { id, value } => {
             if fields.len() < 3 {
-                return 0;
+                return refusal_code(Refusal::NoRoom);
             }
             fields[0] = id as u64;
             fields[1] = value.start as u64;

@@ -1,4 +1,4 @@
-//! Responses, told as the library tells them.
+//! Responses, answered and told as by the library.
 
 use crate::library::basex::{ITEM, RESPONSE};
 use bench::plain::basex as plain;
@@ -9,24 +9,22 @@ pub fn read_response(
     bytes: &[u8],
     out: &mut [u8],
     told: &mut [u64; RESPONSE],
-) -> Result<(), u8> {
+) -> Result<usize, u8> {
     let read = plain::read_response(kind, bytes, out)?;
     let n = |text: &[u8]| text.len() as u64;
     let [first, second] = read.texts.map(n);
     let (listed, error) = (n(read.listed), n(read.error));
     let (items, status) = (read.items as u64, read.status.into());
-    *told = [first, second, items, listed, status, error, read.read as u64];
-    Ok(())
+    *told = [first, second, items, listed, status, error];
+    Ok(read.read)
 }
 
-/// False for the 00 behind the last.
+/// 0 for the 00 behind the last.
 #[inline(never)]
-pub fn item(full: bool, bytes: &[u8], at: usize, told: &mut [u64; ITEM]) -> Result<bool, u8> {
-    let Some(item) = plain::item(full, bytes, at)? else { return Ok(false) };
-    let numbers = [item.uri.unwrap_or(0), item.text, item.next].map(|number| number as u64);
-    let [uri, text, next] = numbers;
-    *told = [item.id.into(), uri, text, next];
-    Ok(true)
+pub fn item(kind: u8, bytes: &[u8], at: usize, told: &mut [u64; ITEM]) -> Result<usize, u8> {
+    let Some(item) = plain::item(kind, bytes, at)? else { return Ok(0) };
+    *told = [item.id.into(), item.uri.unwrap_or(0) as u64, item.text as u64];
+    Ok(item.next - at)
 }
 
 #[inline(never)]

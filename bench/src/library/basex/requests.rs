@@ -2,8 +2,8 @@
 
 use super::answer;
 
-/// How many numbers are told of a request that was read: kind, four lengths, bytes read.
-pub const REQUEST: usize = 6;
+/// How many numbers are told of a request that was read: kind, four lengths.
+pub const REQUEST: usize = 5;
 
 #[rustfmt::skip]
 extern "C" {
@@ -14,11 +14,12 @@ extern "C" {
     fn kdr_basex_write_request(
         out: *mut u8, out_len: usize, kind: u8, first: *const u8, first_len: usize,
         second: *const u8, second_len: usize, third: *const u8, third_len: usize,
-        fourth: *const u8, fourth_len: usize, told: *mut u64, told_len: usize,
+        fourth: *const u8, fourth_len: usize,
     ) -> u64;
 }
 
-/// The request in front of the bytes, its texts decoded to the front of the output.
+/// The request in front of the bytes, its texts decoded to the front of the output; the answer is
+/// the bytes read.
 #[rustfmt::skip]
 pub fn read_request(bytes: &[u8], out: &mut [u8], told: &mut [u64]) -> Result<usize, u8> {
     // SAFETY: as in `library::write`.
@@ -30,18 +31,16 @@ pub fn read_request(bytes: &[u8], out: &mut [u8], told: &mut [u64]) -> Result<us
     })
 }
 
-/// A request in front of the output; its bytes are told.
+/// A request in front of the output; the answer is the bytes written.
 #[rustfmt::skip]
-pub fn write_request(
-    out: &mut [u8], kind: u8, texts: [&[u8]; 4], told: &mut [u64],
-) -> Result<usize, u8> {
+pub fn write_request(out: &mut [u8], kind: u8, texts: [&[u8]; 4]) -> Result<usize, u8> {
     let [first, second, third, fourth] = texts;
     // SAFETY: as in `library::write`.
     answer(unsafe {
         kdr_basex_write_request(
             out.as_mut_ptr(), out.len(), kind, first.as_ptr(), first.len(),
             second.as_ptr(), second.len(), third.as_ptr(), third.len(),
-            fourth.as_ptr(), fourth.len(), told.as_mut_ptr(), told.len(),
+            fourth.as_ptr(), fourth.len(),
         )
     })
 }

@@ -3,9 +3,9 @@
 use super::answer;
 
 /// How many numbers are told of a response that was read: two lengths, items and their length,
-/// status, the error's length, bytes read; and of an item: id, two lengths, where the next starts.
-pub const RESPONSE: usize = 7;
-pub const ITEM: usize = 4;
+/// status, the error's length; and of an item: id, two lengths.
+pub const RESPONSE: usize = 6;
+pub const ITEM: usize = 3;
 
 #[rustfmt::skip]
 extern "C" {
@@ -14,20 +14,20 @@ extern "C" {
         told: *mut u64, told_len: usize,
     ) -> u64;
     fn kdr_basex_item(
-        full: bool, bytes: *const u8, len: usize, at: usize, told: *mut u64, told_len: usize,
+        kind: u8, bytes: *const u8, len: usize, at: usize, told: *mut u64, told_len: usize,
     ) -> u64;
     fn kdr_basex_write_item(
         out: *mut u8, out_len: usize, at: usize, kind: u8, id: u8, uri: *const u8, uri_len: usize,
-        text: *const u8, text_len: usize, told: *mut u64, told_len: usize,
+        text: *const u8, text_len: usize,
     ) -> u64;
     fn kdr_basex_write_end(
         out: *mut u8, out_len: usize, at: usize, kind: u8, first: *const u8, first_len: usize,
         second: *const u8, second_len: usize, status: u8, error: *const u8, error_len: usize,
-        told: *mut u64, told_len: usize,
     ) -> u64;
 }
 
-/// The response in front of the bytes, its texts decoded to the front of the output.
+/// The response in front of the bytes, its texts decoded to the front of the output; the answer is
+/// the bytes read.
 #[rustfmt::skip]
 pub fn read_response(
     kind: u8, bytes: &[u8], out: &mut [u8], told: &mut [u64],
@@ -41,41 +41,39 @@ pub fn read_response(
     })
 }
 
-/// The item at `at`; the answer is 1 for the 00 behind the last.
+/// The item at `at`; the answer is the bytes that it takes, 0 for the 00 behind the last.
 #[rustfmt::skip]
-pub fn item(full: bool, bytes: &[u8], at: usize, told: &mut [u64]) -> Result<usize, u8> {
+pub fn item(kind: u8, bytes: &[u8], at: usize, told: &mut [u64]) -> Result<usize, u8> {
     // SAFETY: as in `library::read`.
     answer(unsafe {
-        kdr_basex_item(full, bytes.as_ptr(), bytes.len(), at, told.as_mut_ptr(), told.len())
+        kdr_basex_item(kind, bytes.as_ptr(), bytes.len(), at, told.as_mut_ptr(), told.len())
     })
 }
 
-/// An item, from `at` on; its bytes are told.
+/// An item, from `at` on; the answer is the bytes written.
 #[rustfmt::skip]
 pub fn write_item(
-    out: &mut [u8], at: usize, kind: u8, id: u8, uri: &[u8], text: &[u8], told: &mut [u64],
+    out: &mut [u8], at: usize, kind: u8, id: u8, uri: &[u8], text: &[u8],
 ) -> Result<usize, u8> {
     // SAFETY: as in `library::write`.
     answer(unsafe {
         kdr_basex_write_item(
             out.as_mut_ptr(), out.len(), at, kind, id, uri.as_ptr(), uri.len(),
-            text.as_ptr(), text.len(), told.as_mut_ptr(), told.len(),
+            text.as_ptr(), text.len(),
         )
     })
 }
 
-/// All of a response but its items, from `at` on; its bytes are told.
+/// All of a response but its items, from `at` on; the answer is the bytes written.
 #[rustfmt::skip]
 pub fn write_end(
     out: &mut [u8], at: usize, kind: u8, [first, second]: [&[u8]; 2], status: u8, error: &[u8],
-    told: &mut [u64],
 ) -> Result<usize, u8> {
     // SAFETY: as in `library::write`.
     answer(unsafe {
         kdr_basex_write_end(
             out.as_mut_ptr(), out.len(), at, kind, first.as_ptr(), first.len(),
             second.as_ptr(), second.len(), status, error.as_ptr(), error.len(),
-            told.as_mut_ptr(), told.len(),
         )
     })
 }

@@ -1,7 +1,8 @@
 //! The items of a response to RESULTS or FULL.
 
+use super::kind::Form;
 use super::runs::{judge, store};
-use crate::plain::refusal::{MORE_NEEDED, NOT_ALLOWED};
+use crate::plain::refusal::{MORE_NEEDED, NOT_ALLOWED, UNKNOWN};
 
 /// An item that was judged.
 #[derive(Clone, Copy, Debug, PartialEq, Eq)]
@@ -35,9 +36,18 @@ pub fn has_uri(full: bool, id: u8) -> bool {
     full && matches!(id, 12 | 14 | 82)
 }
 
-/// The item at `at`, of which nothing is stored; none for the 00 behind the last.
+/// The item at `at` of the response to such a request, of which nothing is stored; none for the 00
+/// behind the last.
 #[inline(always)]
-pub fn item(full: bool, bytes: &[u8], at: usize) -> Result<Option<Item>, u8> {
+pub fn item(kind: u8, bytes: &[u8], at: usize) -> Result<Option<Item>, u8> {
+    match Form::of(kind).ok_or(UNKNOWN)? {
+        Form::Items { full } => item_at(full, bytes, at),
+        _ => Err(NOT_ALLOWED),
+    }
+}
+
+#[inline(always)]
+fn item_at(full: bool, bytes: &[u8], at: usize) -> Result<Option<Item>, u8> {
     let id = *bytes.get(at).ok_or(MORE_NEEDED)?;
     if id == 0 {
         return Ok(None);
@@ -58,7 +68,7 @@ pub fn item(full: bool, bytes: &[u8], at: usize) -> Result<Option<Item>, u8> {
 #[inline(always)]
 pub fn judge_items(full: bool, bytes: &[u8], mut at: usize) -> Result<[usize; 3], u8> {
     let (mut count, mut len) = (0, 0);
-    while let Some(item) = item(full, bytes, at)? {
+    while let Some(item) = item_at(full, bytes, at)? {
         count += 1;
         len += item.decoded();
         at = item.next;

@@ -66,13 +66,15 @@ fn refusals() {
 fn items() {
     let bytes = hex("34 31 00 52 75 00 32 33 00 00 00");
     let first = Item { id: 52, uri: None, text: 1, next: 3 };
-    assert_eq!(item(true, &bytes, 0), Ok(Some(first)));
-    assert_eq!(item(true, &bytes, 3), Ok(Some(Item { id: 82, uri: Some(1), text: 2, next: 9 })));
-    assert_eq!(item(false, &bytes, 3), Ok(Some(Item { id: 82, uri: None, text: 1, next: 6 })));
-    assert_eq!(item(true, &bytes, 9), Ok(None));
-    assert_eq!(item(true, &bytes, 4), Err(NOT_ALLOWED));
-    assert_eq!(item(true, &bytes, 11), Err(MORE_NEEDED));
-    assert_eq!(item(true, &bytes, usize::MAX), Err(MORE_NEEDED));
+    assert_eq!(item(FULL, &bytes, 0), Ok(Some(first)));
+    assert_eq!(item(FULL, &bytes, 3), Ok(Some(Item { id: 82, uri: Some(1), text: 2, next: 9 })));
+    assert_eq!(item(RESULTS, &bytes, 3), Ok(Some(Item { id: 82, uri: None, text: 1, next: 6 })));
+    assert_eq!(item(FULL, &bytes, 9), Ok(None));
+    assert_eq!(item(FULL, &bytes, 4), Err(NOT_ALLOWED));
+    assert_eq!(item(FULL, &bytes, 11), Err(MORE_NEEDED));
+    assert_eq!(item(FULL, &bytes, usize::MAX), Err(MORE_NEEDED));
+    assert_eq!(item(0x01, &bytes, 11), Err(UNKNOWN));
+    assert_eq!(item(QUERY, &bytes, 11), Err(NOT_ALLOWED));
 }
 
 #[test]

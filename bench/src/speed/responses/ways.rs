@@ -1,15 +1,15 @@
 //! The library and the plain code, called and inlined, in one form each.
 
 use crate::called::basex as called;
-use crate::library::basex::{self as library, ITEM, RESPONSE, WRITTEN};
+use crate::library::basex::{self as library, ITEM, RESPONSE};
 use bench::plain::basex as plain;
 
 pub trait Way {
-    /// A sum over what is told.
+    /// A sum over the answer and what is told.
     fn read(kind: u8, bytes: &[u8], out: &mut [u8]) -> Result<u64, u8>;
 
-    /// What is told of an item, or none for the end of them.
-    fn item(full: bool, bytes: &[u8], at: usize) -> Result<Option<[u64; ITEM]>, u8>;
+    /// The bytes of an item and what is told of it, or 0 for the end of them.
+    fn item(kind: u8, bytes: &[u8], at: usize) -> Result<(usize, [u64; ITEM]), u8>;
 
     /// The bytes written.
     fn write_item(
@@ -40,33 +40,29 @@ impl Way for Library {
     #[inline(always)]
     fn read(kind: u8, bytes: &[u8], out: &mut [u8]) -> Result<u64, u8> {
         let mut told = [0; RESPONSE];
-        library::read_response(kind, bytes, out, &mut told)?;
-        Ok(told.iter().sum())
+        let count = library::read_response(kind, bytes, out, &mut told)?;
+        Ok(count as u64 + told.iter().sum::<u64>())
     }
 
     #[inline(always)]
-    fn item(full: bool, bytes: &[u8], at: usize) -> Result<Option<[u64; ITEM]>, u8> {
+    fn item(kind: u8, bytes: &[u8], at: usize) -> Result<(usize, [u64; ITEM]), u8> {
         let mut told = [0; ITEM];
-        let end = library::item(full, bytes, at, &mut told)?;
-        Ok((end == 0).then_some(told))
+        let count = library::item(kind, bytes, at, &mut told)?;
+        Ok((count, told))
     }
 
     #[inline(always)]
     fn write_item(
         out: &mut [u8], at: usize, kind: u8, id: u8, uri: &[u8], text: &[u8],
     ) -> Result<usize, u8> {
-        let mut told = [0; WRITTEN];
-        library::write_item(out, at, kind, id, uri, text, &mut told)?;
-        Ok(told[0] as usize)
+        library::write_item(out, at, kind, id, uri, text)
     }
 
     #[inline(always)]
     fn write_end(
         out: &mut [u8], at: usize, kind: u8, texts: [&[u8]; 2], status: u8, error: &[u8],
     ) -> Result<usize, u8> {
-        let mut told = [0; WRITTEN];
-        library::write_end(out, at, kind, texts, status, error, &mut told)?;
-        Ok(told[0] as usize)
+        library::write_end(out, at, kind, texts, status, error)
     }
 }
 
@@ -75,15 +71,15 @@ impl Way for Called {
     #[inline(always)]
     fn read(kind: u8, bytes: &[u8], out: &mut [u8]) -> Result<u64, u8> {
         let mut told = [0; RESPONSE];
-        called::read_response(kind, bytes, out, &mut told)?;
-        Ok(told.iter().sum())
+        let count = called::read_response(kind, bytes, out, &mut told)?;
+        Ok(count as u64 + told.iter().sum::<u64>())
     }
 
     #[inline(always)]
-    fn item(full: bool, bytes: &[u8], at: usize) -> Result<Option<[u64; ITEM]>, u8> {
+    fn item(kind: u8, bytes: &[u8], at: usize) -> Result<(usize, [u64; ITEM]), u8> {
         let mut told = [0; ITEM];
-        let item = called::item(full, bytes, at, &mut told)?;
-        Ok(item.then_some(told))
+        let count = called::item(kind, bytes, at, &mut told)?;
+        Ok((count, told))
     }
 
     #[inline(always)]
@@ -112,11 +108,11 @@ impl Way for Inlined {
     }
 
     #[inline(always)]
-    fn item(full: bool, bytes: &[u8], at: usize) -> Result<Option<[u64; ITEM]>, u8> {
+    fn item(kind: u8, bytes: &[u8], at: usize) -> Result<(usize, [u64; ITEM]), u8> {
         let told = |plain::Item { id, uri, text, next }| {
-            [id.into(), uri.unwrap_or(0) as u64, text as u64, next as u64]
+            (next - at, [id.into(), uri.unwrap_or(0) as u64, text as u64])
         };
-        Ok(plain::item(full, bytes, at)?.map(told))
+        Ok(plain::item(kind, bytes, at)?.map_or((0, [0; ITEM]), told))
     }
 
     #[inline(always)]

@@ -41,9 +41,9 @@ impl<'a> Iterator for Items<'a> {
     fn next(&mut self) -> Option<Item<'a>> {
         // Behind the last item stands no item; and where there are none, other fields do.
         self.left = self.left.checked_sub(1)?;
-        let read = raw::item(self.kind == Kind::FULL, self.bytes, self.at);
-        let [id, uri, text, next] = read.ok().flatten().expect("the items were read before");
-        self.at = next;
+        let read = raw::item(self.kind.0, self.bytes, self.at);
+        let (count, [id, uri, text]) = read.expect("the items were read before");
+        self.at += count;
         let (id, uri, text) = (id as u8, split(&mut self.texts, uri), split(&mut self.texts, text));
         Some(Item { id, uri: self.kind.has_uri(id).then_some(uri), text })
     }

@@ -37,9 +37,9 @@ impl<'a> Request<'a> {
 ///
 /// Refused with 1, 2 and 13, and with 10 for an output that is too short for the texts.
 pub fn read_request<'o>(bytes: &[u8], out: &'o mut [u8]) -> Result<(Request<'o>, usize), Refusal> {
-    let [kind, first, second, third, fourth, count] = raw::read_request(bytes, out)?;
+    let (count, [kind, lengths @ ..]) = raw::read_request(bytes, out)?;
     let mut rest: &[u8] = out;
-    let texts = [first, second, third, fourth].map(|len| split(&mut rest, len));
+    let texts = lengths.map(|len| split(&mut rest, len));
     Ok((Request { kind: Kind(kind as u8), texts }, count))
 }
 

@@ -63,7 +63,7 @@ pub fn read_response<'a>(
     bytes: &'a [u8],
     out: &'a mut [u8],
 ) -> Result<(Response<'a>, usize), Refusal> {
-    let [first, second, items, listed, status, error, count] =
+    let (count, [first, second, items, listed, status, error]) =
         raw::read_response(kind.0, bytes, out)?;
     let mut rest: &[u8] = out;
     let texts = [first, second].map(|len| split(&mut rest, len));

@@ -20,7 +20,7 @@ pub fn write_string<'o>(out: &'o mut [u8], text: &[u8]) -> Result<&'o [u8], Refu
 ///
 /// Refused with 1 and 13.
 pub fn measure_string(bytes: &[u8]) -> Result<(usize, usize), Refusal> {
-    let [len, count] = raw::string_at(bytes, 0)?;
+    let (count, [len]) = raw::string_at(bytes, 0)?;
     Ok((len, count))
 }
 
@@ -29,6 +29,6 @@ pub fn measure_string(bytes: &[u8]) -> Result<(usize, usize), Refusal> {
 ///
 /// Refused with 1 and 13, and with 10 for an output that is too short.
 pub fn read_string<'o>(bytes: &[u8], out: &'o mut [u8]) -> Result<(&'o [u8], usize), Refusal> {
-    let [len, count] = raw::decode(bytes, 0, out, 0)?;
+    let (count, [len]) = raw::decode(bytes, 0, out, 0)?;
     Ok((&out[..len], count))
 }

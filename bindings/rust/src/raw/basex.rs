@@ -8,7 +8,6 @@ extern "C" {
     fn kdr_basex_string_len(text: *const u8, text_len: usize) -> u64;
     fn kdr_basex_write_string(
         out: *mut u8, out_len: usize, at: usize, text: *const u8, text_len: usize,
-        told: *mut u64, told_len: usize,
     ) -> u64;
     fn kdr_basex_string_at(
         bytes: *const u8, len: usize, at: usize, told: *mut u64, told_len: usize,
@@ -24,23 +23,22 @@ extern "C" {
     fn kdr_basex_write_request(
         out: *mut u8, out_len: usize, kind: u8, first: *const u8, first_len: usize,
         second: *const u8, second_len: usize, third: *const u8, third_len: usize,
-        fourth: *const u8, fourth_len: usize, told: *mut u64, told_len: usize,
+        fourth: *const u8, fourth_len: usize,
     ) -> u64;
     fn kdr_basex_read_response(
         kind: u8, bytes: *const u8, len: usize, out: *mut u8, out_len: usize,
         told: *mut u64, told_len: usize,
     ) -> u64;
     fn kdr_basex_item(
-        full: bool, bytes: *const u8, len: usize, at: usize, told: *mut u64, told_len: usize,
+        kind: u8, bytes: *const u8, len: usize, at: usize, told: *mut u64, told_len: usize,
     ) -> u64;
     fn kdr_basex_write_item(
         out: *mut u8, out_len: usize, at: usize, kind: u8, id: u8, uri: *const u8, uri_len: usize,
-        text: *const u8, text_len: usize, told: *mut u64, told_len: usize,
+        text: *const u8, text_len: usize,
     ) -> u64;
     fn kdr_basex_write_end(
         out: *mut u8, out_len: usize, at: usize, kind: u8, first: *const u8, first_len: usize,
         second: *const u8, second_len: usize, status: u8, error: *const u8, error_len: usize,
-        told: *mut u64, told_len: usize,
     ) -> u64;
 }
 
@@ -50,23 +48,15 @@ pub fn string_len(text: &[u8]) -> usize {
 }
 
 /// The bytes written from `at` on.
-#[rustfmt::skip]
 pub fn write_string(out: &mut [u8], at: usize, text: &[u8]) -> Result<usize, Refusal> {
-    let mut numbers = [0];
-    // SAFETY: both are slices borrowed for the call, the output alone; the numbers are an array of
-    // this function.
-    let code = unsafe {
-        kdr_basex_write_string(
-            out.as_mut_ptr(), out.len(), at, text.as_ptr(), text.len(),
-            numbers.as_mut_ptr(), numbers.len(),
-        )
-    };
-    told(code, numbers).map(|[count]| count)
+    let (to, room) = (out.as_mut_ptr(), out.len());
+    // SAFETY: both are slices borrowed for the call, the output alone.
+    answer(unsafe { kdr_basex_write_string(to, room, at, text.as_ptr(), text.len()) })
 }
 
-/// How long the text of the string at `at` is, and where the next field starts.
-pub fn string_at(bytes: &[u8], at: usize) -> Result<[usize; 2], Refusal> {
-    let mut numbers = [0; 2];
+/// The bytes of the string at `at`, and how long its text is.
+pub fn string_at(bytes: &[u8], at: usize) -> Result<(usize, [usize; 1]), Refusal> {
+    let mut numbers = [0];
     let (to, room) = (numbers.as_mut_ptr(), numbers.len());
     // SAFETY: the bytes are a slice borrowed for the call, the numbers an array of this function.
     told(unsafe { kdr_basex_string_at(bytes.as_ptr(), bytes.len(), at, to, room) }, numbers)
@@ -79,8 +69,8 @@ pub fn decode(
     at: usize,
     out: &mut [u8],
     to: usize,
-) -> Result<[usize; 2], Refusal> {
-    let mut numbers = [0; 2];
+) -> Result<(usize, [usize; 1]), Refusal> {
+    let mut numbers = [0];
     // SAFETY: both are slices borrowed for the call, the output alone; the numbers are an array of
     // this function.
     let code = unsafe {
@@ -92,10 +82,10 @@ pub fn decode(
     told(code, numbers)
 }
 
-/// The kind, how long each of four texts is, and the bytes read.
+/// The bytes read; the kind, and how long each of four texts is.
 #[rustfmt::skip]
-pub fn read_request(bytes: &[u8], out: &mut [u8]) -> Result<[usize; 6], Refusal> {
-    let mut numbers = [0; 6];
+pub fn read_request(bytes: &[u8], out: &mut [u8]) -> Result<(usize, [usize; 5]), Refusal> {
+    let mut numbers = [0; 5];
     // SAFETY: both are slices borrowed for the call, the output alone; the numbers are an array of
     // this function.
     let code = unsafe {
@@ -114,24 +104,25 @@ pub fn write_request(
     kind: u8,
     [first, second, third, fourth]: [&[u8]; 4],
 ) -> Result<usize, Refusal> {
-    let mut numbers = [0];
-    // SAFETY: output and texts are slices borrowed for the call, the output alone; the numbers are
-    // an array of this function.
-    let code = unsafe {
+    // SAFETY: output and texts are slices borrowed for the call, the output alone.
+    answer(unsafe {
         kdr_basex_write_request(
             out.as_mut_ptr(), out.len(), kind, first.as_ptr(), first.len(),
             second.as_ptr(), second.len(), third.as_ptr(), third.len(),
-            fourth.as_ptr(), fourth.len(), numbers.as_mut_ptr(), numbers.len(),
+            fourth.as_ptr(), fourth.len(),
         )
-    };
-    told(code, numbers).map(|[count]| count)
+    })
 }
 
-/// How long the two texts ahead of the status are, how many items there are and how long all their
-/// texts are, the status, how long the error is, and the bytes read.
+/// The bytes read; how long the two texts ahead of the status are, how many items there are and how
+/// long all their texts are, the status, and how long the error is.
 #[rustfmt::skip]
-pub fn read_response(kind: u8, bytes: &[u8], out: &mut [u8]) -> Result<[usize; 7], Refusal> {
-    let mut numbers = [0; 7];
+pub fn read_response(
+    kind: u8,
+    bytes: &[u8],
+    out: &mut [u8],
+) -> Result<(usize, [usize; 6]), Refusal> {
+    let mut numbers = [0; 6];
     // SAFETY: both are slices borrowed for the call, the output alone; the numbers are an array of
     // this function.
     let code = unsafe {
@@ -143,21 +134,13 @@ pub fn read_response(kind: u8, bytes: &[u8], out: &mut [u8]) -> Result<[usize; 7
     told(code, numbers)
 }
 
-/// The id of the item at `at`, how long its URI and its text are, and where the next stands; none
-/// at the end of the items.
-#[rustfmt::skip]
-pub fn item(full: bool, bytes: &[u8], at: usize) -> Result<Option<[usize; 4]>, Refusal> {
-    let mut numbers = [0; 4];
+/// The bytes of the item at `at`, 0 at the end of the items; its id, and how long its URI and its
+/// text are.
+pub fn item(kind: u8, bytes: &[u8], at: usize) -> Result<(usize, [usize; 3]), Refusal> {
+    let mut numbers = [0; 3];
+    let (to, room) = (numbers.as_mut_ptr(), numbers.len());
     // SAFETY: the bytes are a slice borrowed for the call, the numbers an array of this function.
-    let code = unsafe {
-        kdr_basex_item(
-            full, bytes.as_ptr(), bytes.len(), at, numbers.as_mut_ptr(), numbers.len(),
-        )
-    };
-    match answer(code)? {
-        0 => told(code, numbers).map(Some),
-        _ => Ok(None),
-    }
+    told(unsafe { kdr_basex_item(kind, bytes.as_ptr(), bytes.len(), at, to, room) }, numbers)
 }
 
 /// The bytes written from `at` on.
@@ -170,16 +153,13 @@ pub fn write_item(
     uri: &[u8],
     text: &[u8],
 ) -> Result<usize, Refusal> {
-    let mut numbers = [0];
-    // SAFETY: output and texts are slices borrowed for the call, the output alone; the numbers are
-    // an array of this function.
-    let code = unsafe {
+    // SAFETY: output and texts are slices borrowed for the call, the output alone.
+    answer(unsafe {
         kdr_basex_write_item(
             out.as_mut_ptr(), out.len(), at, kind, id, uri.as_ptr(), uri.len(),
-            text.as_ptr(), text.len(), numbers.as_mut_ptr(), numbers.len(),
+            text.as_ptr(), text.len(),
         )
-    };
-    told(code, numbers).map(|[count]| count)
+    })
 }
 
 /// The bytes written from `at` on.
@@ -192,15 +172,11 @@ pub fn write_end(
     status: u8,
     error: &[u8],
 ) -> Result<usize, Refusal> {
-    let mut numbers = [0];
-    // SAFETY: output and texts are slices borrowed for the call, the output alone; the numbers are
-    // an array of this function.
-    let code = unsafe {
+    // SAFETY: output and texts are slices borrowed for the call, the output alone.
+    answer(unsafe {
         kdr_basex_write_end(
             out.as_mut_ptr(), out.len(), at, kind, first.as_ptr(), first.len(),
             second.as_ptr(), second.len(), status, error.as_ptr(), error.len(),
-            numbers.as_mut_ptr(), numbers.len(),
         )
-    };
-    told(code, numbers).map(|[count]| count)
+    })
 }

@@ -1,6 +1,6 @@
 //! `libparts_c.a`: cutting and joining.
 
-use super::answer;
+use super::{answer, told};
 use crate::refusal::Refusal;
 
 /// An assembly: what is open (0 nothing, 1 a statement, 2 an item up to 3.0, 3 one of 4.0), whether
@@ -49,10 +49,9 @@ pub fn typed_item_parts(n: usize) -> usize {
     unsafe { kdr_typed_item_parts(n) as usize }
 }
 
-/// 0 where the URL leaves no room.
-pub fn typed_item_url_parts(n: usize, url: usize) -> usize {
+pub fn typed_item_url_parts(n: usize, url: usize) -> Result<usize, Refusal> {
     // SAFETY: numbers alone.
-    unsafe { kdr_typed_item_url_parts(n, url) as usize }
+    answer(unsafe { kdr_typed_item_url_parts(n, url) })
 }
 
 pub fn write_statement_part(
@@ -131,5 +130,5 @@ pub fn join(
             side, bytes.as_ptr(), bytes.len(), numbers.as_mut_ptr(), numbers.len(),
         )
     };
-    Ok((answer(code)?, numbers.map(|number| number as usize)))
+    told(code, numbers)
 }

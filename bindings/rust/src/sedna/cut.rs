@@ -52,19 +52,14 @@ impl Cut<'_> {
     /// Refused with 11 for a URL of more than 10,227 bytes, which leaves no room. Format, class and
     /// type are judged by [`write_part`](Self::write_part) only.
     pub fn parts(&self) -> Result<usize, Refusal> {
-        let count = match *self {
-            Self::Statement { text, .. } => raw::statement_parts(text.len()),
-            Self::Item { text } => raw::item_parts(text.len()),
-            Self::TypedItem { url: None, text, .. } => raw::typed_item_parts(text.len()),
+        match *self {
+            Self::Statement { text, .. } => Ok(raw::statement_parts(text.len())),
+            Self::Item { text } => Ok(raw::item_parts(text.len())),
+            Self::TypedItem { url: None, text, .. } => Ok(raw::typed_item_parts(text.len())),
             Self::TypedItem { url: Some(url), text, .. } => {
                 raw::typed_item_url_parts(text.len(), url.len())
             }
-        };
-        // No cut has no parts: 0 stands for the refusal.
-        if count == 0 {
-            return Err(Refusal::NoEncoding);
         }
-        Ok(count)
     }
 
     /// Writes message number `k`, from 0, into the front of the output; the answer is what was

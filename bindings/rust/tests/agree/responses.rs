@@ -84,10 +84,7 @@ fn compare(rng: &mut Rng, kind: u8, bytes: &[u8], out: &mut Vec<u8>) -> Result<u
 fn same(kind: u8, bytes: &[u8], response: &Response, plain: &plain::Response) -> bool {
     let End { texts, status, error } = response.end;
     let form = Form::of(kind).expect("a kind whose response was read");
-    let items = match form {
-        Form::Items { full } => items(full, bytes, plain.listed),
-        _ => vec![],
-    };
+    let items = items(kind, bytes, plain.listed);
     // "with status 01 the last string is the error", and the others have one behind it.
     let failure = match form.has_error(1) {
         true => plain.error,
@@ -101,10 +98,10 @@ fn same(kind: u8, bytes: &[u8], response: &Response, plain: &plain::Response) ->
         && response.failure() == (status == 1).then_some(failure)
 }
 
-/// The items of a response, their texts taken from the listed ones.
-fn items<'o>(full: bool, bytes: &[u8], mut listed: &'o [u8]) -> Vec<Item<'o>> {
+/// The items of a response, none where it has no items; their texts taken from the listed ones.
+fn items<'o>(kind: u8, bytes: &[u8], mut listed: &'o [u8]) -> Vec<Item<'o>> {
     let (mut items, mut at) = (vec![], 0);
-    while let Ok(Some(item)) = plain::item(full, bytes, at) {
+    while let Ok(Some(item)) = plain::item(kind, bytes, at) {
         let (uri, rest) = listed.split_at(item.uri.unwrap_or(0));
         let (text, rest) = rest.split_at(item.text);
         items.push(Item { id: item.id, uri: item.uri.map(|_| uri), text });

@@ -1,4 +1,5 @@
 use mathlib.Core.List.{[], _∷_}
+use mathlib.Core.Path.{refl}
 use native.Mathlib.Omega.{arith}
 use lib.ListN.{length-set}
 use borrow.Author.Tests.{lt-ltb, le-ltb}
@@ -16,8 +17,11 @@ enum-told c = search needs
 enum-known-id : tie.Need-enum-known-id
 enum-known-id c = search needs
 
+refusal-code-requires : tie.Need-refusal-code-requires
+refusal-code-requires c κs = search needs
+
 returns : tie.Need-returns
-returns c = (rw (← c .before .before .before .before .option-at .ensures, c .before .before .id .given .1, lt-ltb _ _ (c .if1 .taken)), rw (← c .before .before .before .before .option-at .ensures, c .before .before .id .given .1, lt-ltb _ _ (c .if1 .taken)))
+returns c = rw (← c .before .before .before .before .before .option-at .ensures, c .before .before .before .id .given .1, lt-ltb _ _ (c .before .if1 .taken)) (c .refusal-code .ensures, refl)
 
 cast-fields : tie.Need-cast-fields
 cast-fields c = search needs
@@ -47,6 +51,7 @@ kdr-option-spec =
     option-at-requires
     enum-told
     enum-known-id
+    refusal-code-requires
     returns
     cast-fields
     slice-write-fields

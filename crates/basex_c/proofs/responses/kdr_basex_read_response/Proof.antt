@@ -1,14 +1,32 @@
-use mathlib.Core.Path.{refl}
-use borrow.Author.Tests.{lt-ltb, le-ltb}
+use mathlib.Core.List.{flatten}
+use mathlib.Core.Path.{refl, sym}
+use Prim.Native.Nat.{ℕ}
+use native.Mathlib.Omega.{arith}
+use lib.Seq.{length-take-le}
+use lib.ListN.{length}
 use borrow.Author.Needs.{needs}
+use Rattle.wire.specs.Fields.{Got}
+use Rattle.wire.specs.declared.Refusal.the-variants.{NoRoom}
+use Rattle.basex.specs.Response.{Response}
+use Rattle.basex_response.specs.Reading.{reading, allTexts, answered, left}
+use Rattle.basex_response.specs.declared.Replied.the-variants.{Refused}
+use Rattle.basex_c.specs.Told.{responseTold}
+use Rattle.basex_c.proofs.Stored.{Judged, exported}
 use Rattle.basex_c.proofs.responses.kdr_basex_read_response.Statement.{statement}
 use Rattle.basex_c.proofs.responses.kdr_basex_read_response.Tie as tie
 
-refusal-code-requires : tie.Need-refusal-code-requires
-refusal-code-requires c κs = search needs
+judged : (n : ℕ) (g : Got Response) → Judged 6 responseTold (λ room. answered n room g) (λ d. left d g)
+judged n (Got.refused r) = Judged.never (λ _. refl) (λ _. refl)
+judged n (Got.got p rest) = Judged.fits (Refused NoRoom) _ (length (flatten (allTexts p))) 0 (flatten (allTexts p)) refl refl refl (omega arith) (λ _. refl) (λ _. refl)
 
-returns : tie.Need-returns
-returns c = rw (lt-ltb _ _ (c .before .if1 .taken)) (c .refusal-code .ensures, refl, refl)
+usable-requires : tie.Need-usable-requires
+usable-requires c κs = search needs
+
+slice-relend-prefix-read-response : tie.Need-slice-relend-prefix-read-response
+slice-relend-prefix-read-response c = c .before .usable .ensures .1
+
+slice-aggregate-read-response : tie.Need-slice-aggregate-read-response
+slice-aggregate-read-response c = sym (length-take-le (c .before .before .usable .result) (c .before .before .before .before .before .before .args .out .now) (c .before .before .usable .ensures .1))
 
 read-response-requires : tie.Need-read-response-requires
 read-response-requires c κs = search needs
@@ -22,17 +40,20 @@ same-length c = search needs
 same-length-2 : tie.Need-same-length-2
 same-length-2 c = search needs
 
-returns-2 : tie.Need-returns-2
-returns-2 c = rw (le-ltb _ _ (c .before .before .before .before .before .before .before .before .if1 .left), ← c .before .before .before .before .before .read-response .ensures .0) (c .before .before .tell .ensures .0, c .before .before .before .before .before .read-response .ensures .1, c .before .before .tell .ensures .1)
+returns : tie.Need-returns
+returns c =
+    let a = c .before .before .before .before .before .before .before .before .before .before .before .before .args in
+    exported (a .out .now) (a .told .now) (judged (length (a .bytes .now)) (reading (a .kind) (a .bytes .now))) (c .before .before .before .before .before .before .before .before .usable .ensures .0) (c .before .before .before .before .before .read-response .ensures .0) (c .before .before .before .before .before .read-response .ensures .1) (c .before .before .tell .ensures)
 
 pub kdr-basex-read-response-spec : {M : Type 1} → statement M
 kdr-basex-read-response-spec =
     tie.close
     (tie.spec
-    refusal-code-requires
-    returns
+    usable-requires
+    slice-relend-prefix-read-response
+    slice-aggregate-read-response
     read-response-requires
     tell-requires
     same-length
     same-length-2
-    returns-2)
+    returns)

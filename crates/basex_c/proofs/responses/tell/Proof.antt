@@ -1,8 +1,8 @@
-use native.Mathlib.Omega.{arith}
-use lib.ListN.{length-set}
 use mathlib.Core.List.{[], _∷_}
 use mathlib.Core.Path.{refl}
-use Rattle.basex_c.proofs.Front.{front-sets}
+use native.Mathlib.Omega.{arith}
+use lib.ListN.{length-set}
+use Rattle.basex_c.proofs.Told.{tells, tells-not}
 use borrow.Author.Needs.{needs}
 use Rattle.basex_c.proofs.responses.tell.Statement.{statement}
 use Rattle.basex_c.proofs.responses.tell.Tie as tie
@@ -15,6 +15,12 @@ refusal-code-requires c κs = search needs
 
 enum-known-answer-2 : tie.Need-enum-known-answer-2
 enum-known-answer-2 c = search needs
+
+refusal-code-requires-2 : tie.Need-refusal-code-requires-2
+refusal-code-requires-2 c κs = search needs
+
+returns : tie.Need-returns
+returns c = rw (c .before .before .before .answer2 .given .1) (tells-not _ (_ ∷ _ ∷ _ ∷ _ ∷ _ ∷ _ ∷ []) _ (c .before .if1 .taken) (c .refusal-code2 .ensures))
 
 slice-write-told : tie.Need-slice-write-told
 slice-write-told c = search needs
@@ -37,17 +43,14 @@ slice-write-told-5 c = simp length-set (omega arith)
 slice-write-told-6 : tie.Need-slice-write-told-6
 slice-write-told-6 c = simp length-set (omega arith)
 
-slice-write-told-7 : tie.Need-slice-write-told-7
-slice-write-told-7 c = simp length-set (omega arith)
-
-returns : tie.Need-returns
-returns c = rw (c .before .before .answer .given .1) (c .refusal-code .ensures, refl)
+returns-2 : tie.Need-returns-2
+returns-2 c = rw (c .before .before .answer .given .1) (c .refusal-code .ensures, refl)
 
 same-length : tie.Need-same-length
 same-length c = search needs
 
-returns-2 : tie.Need-returns-2
-returns-2 c = rw (c .before .answer2 .given .1) (refl, front-sets (c .before .before .before .before .args .told .now) (_ ∷ _ ∷ _ ∷ _ ∷ _ ∷ _ ∷ _ ∷ []) (c .before .before .before .before .pre))
+returns-3 : tie.Need-returns-3
+returns-3 c = rw (c .before .before .answer2 .given .1) (tells (c .before .before .before .before .before .args .told .now) (_ ∷ _ ∷ _ ∷ _ ∷ _ ∷ _ ∷ []) _ (c .if1 .left) refl)
 
 pub tell-spec : {M : Type 1} → statement M
 tell-spec =
@@ -56,6 +59,8 @@ tell-spec =
     enum-known-answer
     refusal-code-requires
     enum-known-answer-2
+    refusal-code-requires-2
+    returns
     slice-write-told
     slice-write-told-2
     slice-write-told-3
@@ -63,7 +68,6 @@ tell-spec =
     cast-told
     slice-write-told-5
     slice-write-told-6
-    slice-write-told-7
-    returns
+    returns-2
     same-length
-    returns-2)
+    returns-3)

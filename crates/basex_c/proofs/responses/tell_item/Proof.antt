@@ -2,7 +2,7 @@ use mathlib.Core.List.{[], _∷_}
 use mathlib.Core.Path.{refl}
 use native.Mathlib.Omega.{arith}
 use lib.ListN.{length-set}
-use Rattle.basex_c.proofs.Front.{front-sets}
+use Rattle.basex_c.proofs.Told.{tells, tells-not}
 use borrow.Author.Needs.{needs}
 use Rattle.basex_c.proofs.responses.tell_item.Statement.{statement}
 use Rattle.basex_c.proofs.responses.tell_item.Tie as tie
@@ -19,6 +19,12 @@ enum-told c = search needs
 enum-known-answer-2 : tie.Need-enum-known-answer-2
 enum-known-answer-2 c = search needs
 
+refusal-code-requires-2 : tie.Need-refusal-code-requires-2
+refusal-code-requires-2 c κs = search needs
+
+returns : tie.Need-returns
+returns c = rw (c .before .before .before .answer2 .given .1) (tells-not _ (_ ∷ _ ∷ _ ∷ []) _ (c .before .if1 .taken) (c .refusal-code2 .ensures))
+
 cast-told : tie.Need-cast-told
 cast-told c = search needs
 
@@ -31,20 +37,20 @@ slice-write-told-2 c = simp length-set (omega arith)
 slice-write-told-3 : tie.Need-slice-write-told-3
 slice-write-told-3 c = simp length-set (omega arith)
 
-slice-write-told-4 : tie.Need-slice-write-told-4
-slice-write-told-4 c = search needs
-
-returns : tie.Need-returns
-returns c = rw (c .before .before .answer .given .1) (c .refusal-code .ensures, refl)
+span-requires : tie.Need-span-requires
+span-requires c κs = search needs
 
 returns-2 : tie.Need-returns-2
-returns-2 c = rw (c .enum-told .given .1) (refl, refl)
+returns-2 c = rw (c .before .before .answer .given .1) (c .refusal-code .ensures, refl)
+
+returns-3 : tie.Need-returns-3
+returns-3 c = rw (c .enum-told .given .1) (tells (c .before .before .before .args .told .now) [] _ (omega arith) refl)
 
 same-length : tie.Need-same-length
 same-length c = search needs
 
-returns-3 : tie.Need-returns-3
-returns-3 c = rw (c .before .answer2 .given .1) (refl, front-sets (c .before .before .before .before .args .told .now) (_ ∷ _ ∷ _ ∷ _ ∷ []) (c .before .before .before .before .pre))
+returns-4 : tie.Need-returns-4
+returns-4 c = rw (c .before .before .before .answer2 .given .1) (tells (c .before .before .before .before .before .before .args .told .now) (_ ∷ _ ∷ _ ∷ []) _ (c .before .if1 .left) (c .span .ensures))
 
 pub tell-item-spec : {M : Type 1} → statement M
 tell-item-spec =
@@ -54,12 +60,14 @@ tell-item-spec =
     refusal-code-requires
     enum-told
     enum-known-answer-2
+    refusal-code-requires-2
+    returns
     cast-told
     slice-write-told
     slice-write-told-2
     slice-write-told-3
-    slice-write-told-4
-    returns
+    span-requires
     returns-2
+    returns-3
     same-length
-    returns-3)
+    returns-4)
