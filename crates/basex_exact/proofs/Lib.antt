@@ -13,3 +13,4 @@ pub mod ToldStrings
 pub mod ToldMessages
 pub mod Errors
 pub mod Exactly
+pub mod Moments

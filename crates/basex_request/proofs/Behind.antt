@@ -9,9 +9,9 @@ use Rattle.wire.specs.Bytes.{if}
 use Rattle.wire.specs.Fields.{Got, goOn, give}
 use Rattle.wire.specs.declared.Refusal.{Refusal}
 use Rattle.wire.specs.declared.Refusal.the-variants.{MoreBytes, BadEscape}
-use Rattle.basex_string.specs.Strings.{special, escaped, string}
+use Rattle.basex_string.specs.Strings.{string}
 use Rattle.basex_string.specs.Scan as strings
-use Rattle.basex_string.proofs.Laws.{begun, exact, read-written, refuses, bad-escape, escape-bad}
+use Rattle.basex_string.proofs.Laws.{exact, read-written, refuses, bad-behind}
 use Rattle.basex.specs.declared.Found.{Found}
 use Rattle.basex.specs.declared.Found.the-variants.{Known, Unknown}
 use Rattle.basex.specs.Kinds.{findOf, isCommand}
@@ -21,25 +21,6 @@ use Rattle.basex.proofs.Texts.{texts-none, texts-more, texts-refused, texts-ref
 use Rattle.basex_request.specs.Reading.{fieldsOf, reading}
 use Rattle.basex_request.proofs.Refusals.{refused-before}
 
-begun-append : (t rest more : List ℕ) → begun t rest ++ more ≡ begun t (rest ++ more)
-begun-append [] rest more = refl
-begun-append (b ∷ t) rest more = by (special b) ∙ ap (escaped b) (begun-append t rest more)
-  where
-    by : (f : Bool) → if f (255 ∷ b ∷ begun t rest) (b ∷ begun t rest) ++ more ≡ if f (255 ∷ b ∷ (begun t rest ++ more)) (b ∷ (begun t rest ++ more))
-    by true = refl
-    by false = refl
-
-string-behind : (s more : List ℕ) → strings.reading s ≡ Got.refused BadEscape → strings.reading (s ++ more) ≡ Got.refused BadEscape
-string-behind s more e =
-    let x = bad-escape s e in
-    escape-bad (s ++ more) (record {
-      text = x .text;
-      byte = x .byte;
-      rest = x .rest ++ more;
-      other = x .other;
-      stands = ap (λ (l : List ℕ). l ++ more) (x .stands) ∙ begun-append (x .text) (255 ∷ x .byte ∷ x .rest) more;
-    })
-
 texts-behind : (n : ℕ) (s more : List ℕ) → texts n s ≡ Got.refused BadEscape → texts n (s ++ more) ≡ Got.refused BadEscape
 texts-behind zero s more e = let z : Got.got [] s ≡ Got.refused BadEscape = sym (texts-none s) ∙ e in let y : _≡_ {A = ℕ} 0 1 = cc in absurd (omega arith)
 texts-behind (suc n) s more e = by (λ (l : List ℕ). texts-behind n l more) (strings.reading s) refl
@@ -48,7 +29,7 @@ texts-behind (suc n) s more e = by (λ (l : List ℕ). texts-behind n l more) (s
     by i (Got.refused q) p =
         let g : Got.refused q ≡ Got.refused BadEscape = sym (texts-refused n s q p) ∙ e in
         let z : q ≡ BadEscape = cc in
-        texts-refused n (s ++ more) BadEscape (string-behind s more (p ∙ ap Got.refused z))
+        texts-refused n (s ++ more) BadEscape (bad-behind s more (p ∙ ap Got.refused z))
     by i (Got.got t rest) p =
         let f = ap strings.reading (ap (λ (l : List ℕ). l ++ more) (exact s t rest p) ∙ append-assoc (string t) rest more) ∙ read-written t (rest ++ more) in
         then (texts n rest) refl (sym (texts-more n s t rest p) ∙ e) f
@@ -76,7 +57,7 @@ refused-behind (b ∷ s) more r h e = by (findOf b) e
         which true g =
             let q = refused-before r (strings.reading (b ∷ s)) Request.command g in
             let z = bad (refuses (b ∷ s) r q) in
-            rw (string-behind (b ∷ s) more (q ∙ ap Got.refused z)) (ap Got.refused (sym z))
+            rw (bad-behind (b ∷ s) more (q ∙ ap Got.refused z)) (ap Got.refused (sym z))
         which false g =
             let q = refused-before r (texts n s) (Request.coded b) g in
             let z = bad (texts-refuses n s r q) in

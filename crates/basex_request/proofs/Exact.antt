@@ -45,7 +45,7 @@ opening [] rest h = let z : _≡_ {A = ℕ} 0 1 = cc in absurd (omega arith)
 opening (b ∷ t) rest h = (b, string t ++ rest, rw (not-special b h) refl, h)
 
 -- .. and so the other way round
-opened : (t rest s : List ℕ) (b : ℕ) → b ∷ s ≡ string t ++ rest → startsCommand b ≡ true → opens t ≡ true
+pub opened : (t rest s : List ℕ) (b : ℕ) → b ∷ s ≡ string t ++ rest → startsCommand b ≡ true → opens t ≡ true
 unfolding string
 opened [] rest s b e h = let x : b ≡ 0 = cc in sym (ap startsCommand x) ∙ h
 opened (x ∷ t) rest s b e h = by (special x) refl

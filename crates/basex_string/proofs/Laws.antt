@@ -29,7 +29,7 @@ reading-escaped b s = by (eqb b 0) refl (eqb b 255) refl
     by false p true q = simp (p, q)
     by false p false q = simp (p, q)
 
-escaped-append : (b : ℕ) (s rest : List ℕ) → escaped b s ++ rest ≡ escaped b (s ++ rest)
+pub escaped-append : (b : ℕ) (s rest : List ℕ) → escaped b s ++ rest ≡ escaped b (s ++ rest)
 escaped-append b s rest = by (special b)
   where
     by : (t : Bool) → if t (255 ∷ b ∷ s) (b ∷ s) ++ rest ≡ if t (255 ∷ b ∷ (s ++ rest)) (b ∷ (s ++ rest))
@@ -83,6 +83,10 @@ told (x ∷ b) = (first (eqb x 0) refl (eqb x 255) refl (told b), second (specia
     second true q t = rw q (rw q at (told-push x b (reading b) t))
     second false q t = rw q (Why.bad [] x b q refl)
 
+-- why bytes are refused
+pub why : (b : List ℕ) (r : Refusal) → reading b ≡ Got.refused r → Why b r
+why b r e = subst (Told b) e (told b .0)
+
 -- what was read is what a writer writes
 pub exact : (b s rest : List ℕ) → reading b ≡ Got.got s rest → b ≡ string s ++ rest
 exact b s rest e = subst (Told b) e (told b .0) ∙ sym (string-begun s rest)
@@ -121,7 +125,7 @@ one-encoding s t r q e = let g : Got.got s r ≡ Got.got t q = sym (read-written
 
 -- 1 and 13 alone
 pub refuses : (b : List ℕ) (r : Refusal) → reading b ≡ Got.refused r → (r ≡ MoreBytes) ⊎ (r ≡ BadEscape)
-refuses b r e = by (subst (Told b) e (told b .0))
+refuses b r e = by (why b r e)
   where
     by : {q : Refusal} → Why b q → (q ≡ MoreBytes) ⊎ (q ≡ BadEscape)
     by (Why.endless s p) = inl refl
@@ -138,7 +142,7 @@ pub record Escape (b : List ℕ) : Type 0 where
 
 -- 13 exactly there
 pub bad-escape : (b : List ℕ) → reading b ≡ Got.refused BadEscape → Escape b
-bad-escape b e = by (subst (Told b) e (told b .0)) refl
+bad-escape b e = by (why b BadEscape e) refl
   where
     by : {q : Refusal} → Why b q → q ≡ BadEscape → Escape b
     by (Why.endless s p) h = let z : _≡_ {A = ℕ} 0 1 = cc in absurd (omega arith)
@@ -152,3 +156,19 @@ reading-begun (x ∷ s) b e = reading-escaped x (begun s b) ∙ ap (push x) (rea
 pub escape-bad : (b : List ℕ) → Escape b → reading b ≡ Got.refused BadEscape
 unfolding scan
 escape-bad b e = ap reading (e .stands) ∙ reading-begun (e .text) _ (rw (e .other))
+
+begun-append : (s rest more : List ℕ) → begun s rest ++ more ≡ begun s (rest ++ more)
+begun-append [] rest more = refl
+begun-append (b ∷ s) rest more = escaped-append b (begun s rest) more ∙ ap (escaped b) (begun-append s rest more)
+
+-- 13 stands whatever follows
+pub bad-behind : (b more : List ℕ) → reading b ≡ Got.refused BadEscape → reading (b ++ more) ≡ Got.refused BadEscape
+bad-behind b more e =
+    let x = bad-escape b e in
+    escape-bad (b ++ more) (record {
+      text = x .text;
+      byte = x .byte;
+      rest = x .rest ++ more;
+      other = x .other;
+      stands = ap (λ (l : List ℕ). l ++ more) (x .stands) ∙ begun-append (x .text) (255 ∷ x .byte ∷ x .rest) more;
+    })

@@ -1,0 +1,5 @@
+-- Which refusal is given where, by the encodings alone (specs/Moments.antt): strings, requests, items, responses.
+pub mod Order
+pub mod Soon
+pub mod Strings
+pub use Strings.{string-moments}

@@ -1,0 +1,77 @@
+-- Document 01, "BaseX", "Order: 1 for no byte, 2, then fields left to right: 1, 8, and 13 as soon as the pair is there": which refusal is given, said by the encodings alone.
+use mathlib.Core.Bool.{Bool, true, false}
+use mathlib.Core.List.{List, [], _∷_, _++_}
+use mathlib.Core.Logic.{_↔_, _≢_}
+use mathlib.Core.Path.{_≡_}
+use Prim.Native.Nat.{ℕ, _<_}
+use lib.ListN.{length}
+use Rattle.wire.specs.Fields.{Got}
+use Rattle.wire.specs.declared.Refusal.{Refusal}
+use Rattle.wire.specs.declared.Refusal.the-variants.{MoreBytes, UnknownInstruction, ValueNotAllowed, BadEscape}
+use Rattle.basex_string.specs.Strings.{special, escaped, string}
+use Rattle.basex_string.specs.Scan as scan
+use Rattle.basex.specs.declared.Found.the-variants.{Known, Unknown}
+use Rattle.basex.specs.declared.Reply.{Reply}
+use Rattle.basex.specs.Kinds.{startsCommand, findOf, isCommand, ahead, behind, listed, isFull, idAllowed, itemStrings, statusAllowed}
+use Rattle.basex.specs.Request as request
+use Rattle.basex.specs.Response as response
+use Rattle.basex.specs.Response.{Item, itemBytes, itemsBytes, listBytes, ItemAllowed, ItemsAllowed, ListAllowed}
+use Rattle.basex.specs.Texts.{strings}
+use Rattle.basex_request.specs.Reading as requests
+use Rattle.basex_response.specs.Items.{Next, next}
+use Rattle.basex_response.specs.Reading as responses
+
+-- the encoding of a value that has one
+abbrev pub Encoded : {A : Type 0} → (A → Type 0) → (A → List ℕ) → List ℕ → Type 0
+Encoded {A} Good bytes e = (a : A) × Good a × (bytes a ≡ e)
+
+-- 1, "more bytes are needed": a proper beginning, whole with at least one byte more
+pub record Begun (Whole : List ℕ → Type 0) (s : List ℕ) : Type 0 where
+  pub missing : List ℕ
+  pub some : 0 < length missing
+  pub whole : Whole (s ++ missing)
+
+-- "as soon as the byte is there": a beginning, then a byte with which it is neither begun nor whole, then anything
+pub record Broken (Whole : List ℕ → Type 0) (s : List ℕ) : Type 0 where
+  pub front : List ℕ
+  pub byte : ℕ
+  pub rest : List ℕ
+  pub stands : s ≡ front ++ (byte ∷ rest)
+  pub begun : Begun Whole front
+  pub not-begun : ¬ Begun Whole (front ++ (byte ∷ []))
+  pub not-whole : ¬ Whole (front ++ (byte ∷ []))
+
+-- a refusal other than 1
+abbrev pub Otherwise : {A : Type 0} → Got A → Type 0
+Otherwise x = (r : Refusal) × (r ≢ MoreBytes) × (x ≡ Got.refused r)
+
+-- "A string is written with FF before each 00 and FF, then 00": all but that 00
+unfoldable pub body : List ℕ → List ℕ
+body [] = []
+body (b ∷ s) = escaped b (body s)
+
+-- 13, "FF followed by a byte other than 00 or FF", "as soon as the pair is there": in a text, ahead of anything
+pub record BadPair (s : List ℕ) : Type 0 where
+  pub text : List ℕ
+  pub byte : ℕ
+  pub rest : List ℕ
+  pub other : special byte ≡ false
+  pub stands : s ≡ body text ++ (255 ∷ byte ∷ rest)
+
+-- .. in one of n strings, those ahead of it whole
+pub record BadTexts (n : ℕ) (s : List ℕ) : Type 0 where
+  pub texts : List (List ℕ)
+  pub left : List ℕ
+  pub few : length texts < n
+  pub stands : s ≡ strings texts ++ left
+  pub bad : BadPair left
+
+-- every text has an encoding
+abbrev pub Any : List ℕ → Type 0
+Any t = Unit {0}
+
+pub record StringMoments : Type 0 where
+  pub ends : (t : List ℕ) → string t ≡ body t ++ (0 ∷ [])
+  pub more : (s : List ℕ) → (scan.reading s ≡ Got.refused MoreBytes) ↔ Begun (Encoded Any string) s
+  pub soon : (s : List ℕ) → Otherwise (scan.reading s) ↔ Broken (Encoded Any string) s
+  pub pair : (s : List ℕ) → (scan.reading s ≡ Got.refused BadEscape) ↔ BadPair s
