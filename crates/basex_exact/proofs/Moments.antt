@@ -2,4 +2,7 @@
 pub mod Order
 pub mod Soon
 pub mod Strings
+pub mod Texts
+pub mod Requests
 pub use Strings.{string-moments}
+pub use Requests.{request-moments}

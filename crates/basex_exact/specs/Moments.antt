@@ -75,3 +75,17 @@ pub record StringMoments : Type 0 where
   pub more : (s : List ℕ) → (scan.reading s ≡ Got.refused MoreBytes) ↔ Begun (Encoded Any string) s
   pub soon : (s : List ℕ) → Otherwise (scan.reading s) ↔ Broken (Encoded Any string) s
   pub pair : (s : List ℕ) → (scan.reading s ≡ Got.refused BadEscape) ↔ BadPair s
+
+-- 13 in a request: "20 to FE starts a COMMAND, one string", other first bytes stand ahead of their strings
+pub data BadRequest (s : List ℕ) : Type 0 where
+  command : (b : ℕ) (left : List ℕ) → s ≡ b ∷ left → startsCommand b ≡ true → BadPair s → BadRequest s
+  coded : (b n : ℕ) (reply : Reply) (left : List ℕ) → s ≡ b ∷ left → findOf b ≡ Known n reply → isCommand reply ≡ false → BadTexts n left → BadRequest s
+
+pub record RequestMoments : Type 0 where
+  -- "1 for no byte"
+  pub none : requests.reading [] ≡ Got.refused MoreBytes
+  pub more : (s : List ℕ) → (requests.reading s ≡ Got.refused MoreBytes) ↔ Begun (Encoded request.Published request.encode) s
+  pub soon : (s : List ℕ) → Otherwise (requests.reading s) ↔ Broken (Encoded request.Published request.encode) s
+  -- "Other first bytes: 2", whatever follows
+  pub unknown : (s : List ℕ) → (requests.reading s ≡ Got.refused UnknownInstruction) ↔ ((b : ℕ) × (rest : List ℕ) × (s ≡ b ∷ rest) × (findOf b ≡ Unknown))
+  pub pair : (s : List ℕ) → (requests.reading s ≡ Got.refused BadEscape) ↔ BadRequest s
