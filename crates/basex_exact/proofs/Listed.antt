@@ -60,7 +60,7 @@ module _ (full : Bool) where
           allowed? false q e = let d = rw q at e in let z : _≡_ {A = ℕ} 0 1 = cc in absurd (omega arith)
 
   -- no id that is allowed is 00
-  id-not-zero : (id : ℕ) → idAllowed id ≡ true → eqb id 0 ≡ false
+  pub id-not-zero : (id : ℕ) → idAllowed id ≡ true → eqb id 0 ≡ false
   unfolding idAllowed
   id-not-zero zero p = let z : _≡_ {A = ℕ} 0 1 = cc in absurd (omega arith)
   id-not-zero (suc n) p = ne-eqb (suc n) 0 (λ (e : suc n ≡ 0). omega arith)

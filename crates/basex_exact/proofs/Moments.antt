@@ -4,5 +4,8 @@ pub mod Soon
 pub mod Strings
 pub mod Texts
 pub mod Requests
+pub mod Tagged
+pub mod Items
 pub use Strings.{string-moments}
 pub use Requests.{request-moments}
+pub use Items.{item-moments}

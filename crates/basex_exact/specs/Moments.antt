@@ -89,3 +89,36 @@ pub record RequestMoments : Type 0 where
   -- "Other first bytes: 2", whatever follows
   pub unknown : (s : List ℕ) → (requests.reading s ≡ Got.refused UnknownInstruction) ↔ ((b : ℕ) × (rest : List ℕ) × (s ≡ b ∷ rest) × (findOf b ≡ Unknown))
   pub pair : (s : List ℕ) → (requests.reading s ≡ Got.refused BadEscape) ↔ BadRequest s
+
+-- "items, then 00": one item, or that 00
+abbrev pub nextBytes : Next → List ℕ
+nextBytes (Next.item i) = itemBytes i
+nextBytes Next.end = 0 ∷ []
+
+abbrev pub NextAllowed : Bool → Next → Type 0
+NextAllowed full (Next.item i) = ItemAllowed full i
+NextAllowed full Next.end = Unit {0}
+
+-- 8: "a type id (7-15 or 32-83, else 8)", whatever follows
+pub record BadId (s : List ℕ) : Type 0 where
+  pub id : ℕ
+  pub rest : List ℕ
+  pub stands : s ≡ id ∷ rest
+  pub not-end : id ≢ 0
+  pub other : idAllowed id ≡ false
+
+-- 13 in one of an item's strings
+pub record BadItem (full : Bool) (s : List ℕ) : Type 0 where
+  pub id : ℕ
+  pub left : List ℕ
+  pub stands : s ≡ id ∷ left
+  pub allowed : idAllowed id ≡ true
+  pub bad : BadTexts (itemStrings full id) left
+
+pub record ItemMoments (full : Bool) : Type 0 where
+  -- "then 00": the end exactly there
+  pub end : (s rest : List ℕ) → (next full s ≡ Got.got Next.end rest) ↔ (s ≡ 0 ∷ rest)
+  pub more : (s : List ℕ) → (next full s ≡ Got.refused MoreBytes) ↔ Begun (Encoded (NextAllowed full) nextBytes) s
+  pub soon : (s : List ℕ) → Otherwise (next full s) ↔ Broken (Encoded (NextAllowed full) nextBytes) s
+  pub value : (s : List ℕ) → (next full s ≡ Got.refused ValueNotAllowed) ↔ BadId s
+  pub pair : (s : List ℕ) → (next full s ≡ Got.refused BadEscape) ↔ BadItem full s
