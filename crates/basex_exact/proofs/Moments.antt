@@ -6,6 +6,10 @@ pub mod Texts
 pub mod Requests
 pub mod Tagged
 pub mod Items
+pub mod Lists
+pub mod Ended
+pub mod Responses
 pub use Strings.{string-moments}
 pub use Requests.{request-moments}
 pub use Items.{item-moments}
+pub use Responses.{response-moments}

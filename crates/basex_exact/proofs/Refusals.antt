@@ -56,7 +56,7 @@ module _ (reply : Reply) (r : Refusal) where
   first s (inr d) = second (d .value) (d .behind) (stopped (listField reply (d .behind)) (ended reply (d .value)) r (d .goes))
 
   -- a response to a known request is refused with 1, 8 or 13
-  fields-refuse : (s : List ℕ) → fieldsOf reply s ≡ Got.refused r → OfFields r
+  pub fields-refuse : (s : List ℕ) → fieldsOf reply s ≡ Got.refused r → OfFields r
   fields-refuse s e = first s (stopped (texts (ahead reply) s) (λ ts s1. goOn (listField reply s1) (ended reply ts)) r (sym (fields-are reply s) ∙ e))
 
 -- reading refuses with 1, 2, 8 or 13 alone

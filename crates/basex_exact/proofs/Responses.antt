@@ -25,14 +25,14 @@ use Rattle.basex_response.specs.Reading.{byteField, listField, fieldsOf, readin
 use Rattle.basex_exact.proofs.Listed.{same, items-exact, items-written, items-few}
 
 module _ (reply : Reply) where
-  list-exact : (s : List ℕ) (is : List Item) (rest : List ℕ) → listField reply s ≡ Got.got is rest → ListAllowed (listed reply) (isFull reply) is × (s ≡ listBytes reply is ++ rest)
+  pub list-exact : (s : List ℕ) (is : List Item) (rest : List ℕ) → listField reply s ≡ Got.got is rest → ListAllowed (listed reply) (isFull reply) is × (s ≡ listBytes reply is ++ rest)
   list-exact s is rest e = by (listed reply) refl e
     where
       by : (b : Bool) → listed reply ≡ b → if b (list (isFull reply) s) (Got.got [] s) ≡ Got.got is rest → ListAllowed (listed reply) (isFull reply) is × (s ≡ listBytes reply is ++ rest)
       by true p e = let x = items-exact (isFull reply) (length s) s is rest e in rw p (x .0, x .1 ∙ sym (append-assoc (itemsBytes is) (0 ∷ []) rest))
       by false p e = let g = same e in rw p (sym (g .0), g .1)
 
-  list-written : (is : List Item) (rest : List ℕ) → ListAllowed (listed reply) (isFull reply) is → listField reply (listBytes reply is ++ rest) ≡ Got.got is rest
+  pub list-written : (is : List Item) (rest : List ℕ) → ListAllowed (listed reply) (isFull reply) is → listField reply (listBytes reply is ++ rest) ≡ Got.got is rest
   list-written is rest a = by (listed reply) a
     where
       by : (b : Bool) → ListAllowed b (isFull reply) is → if b (list (isFull reply) (if b (itemsBytes is ++ (0 ∷ [])) [] ++ rest)) (Got.got [] (if b (itemsBytes is ++ (0 ∷ [])) [] ++ rest)) ≡ Got.got is rest
@@ -89,7 +89,7 @@ module _ (reply : Reply) where
       ap (fieldsOf reply) w ∙ fields-are (strings (r .texts) ++ s1) ∙ rw a (rw b (rw (p .ended) (rw c refl)))
 
 -- no bytes: 1, whatever the request
-none-refused : (reply : Reply) → fieldsOf reply [] ≡ Got.refused MoreBytes
+pub none-refused : (reply : Reply) → fieldsOf reply [] ≡ Got.refused MoreBytes
 unfolding fieldsOf texts scan items
 none-refused Command = refl
 none-refused Stored = refl

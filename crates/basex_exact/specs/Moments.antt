@@ -122,3 +122,41 @@ pub record ItemMoments (full : Bool) : Type 0 where
   pub soon : (s : List ℕ) → Otherwise (next full s) ↔ Broken (Encoded (NextAllowed full) nextBytes) s
   pub value : (s : List ℕ) → (next full s ≡ Got.refused ValueNotAllowed) ↔ BadId s
   pub pair : (s : List ℕ) → (next full s ≡ Got.refused BadEscape) ↔ BadItem full s
+
+-- what stands ahead of an id, or of the 00 behind the last item
+pub record AtItem (reply : Reply) (front : List ℕ) : Type 0 where
+  pub texts : List (List ℕ)
+  pub items : List Item
+  pub first : length texts ≡ ahead reply
+  pub has : listed reply ≡ true
+  pub allowed : ItemsAllowed (isFull reply) items
+  pub is : front ≡ strings texts ++ itemsBytes items
+
+-- what stands ahead of the status
+pub record AtStatus (reply : Reply) (front : List ℕ) : Type 0 where
+  pub texts : List (List ℕ)
+  pub items : List Item
+  pub first : length texts ≡ ahead reply
+  pub allowed : ListAllowed (listed reply) (isFull reply) items
+  pub is : front ≡ strings texts ++ listBytes reply items
+
+-- 8 in a response: an id, or "Status above 01", whatever follows
+pub data BadValue (reply : Reply) (s : List ℕ) : Type 0 where
+  id : (front left : List ℕ) → s ≡ front ++ left → AtItem reply front → BadId left → BadValue reply s
+  status : (front : List ℕ) (b : ℕ) (rest : List ℕ) → s ≡ front ++ (b ∷ rest) → AtStatus reply front → statusAllowed b ≡ false → BadValue reply s
+
+-- 13 in a response: in a string ahead of the status, of an item, or behind the status
+pub data BadText (reply : Reply) (s : List ℕ) : Type 0 where
+  first : BadTexts (ahead reply) s → BadText reply s
+  item : (front left : List ℕ) → s ≡ front ++ left → AtItem reply front → BadItem (isFull reply) left → BadText reply s
+  error : (front : List ℕ) (b : ℕ) (left : List ℕ) → s ≡ front ++ (b ∷ left) → AtStatus reply front → statusAllowed b ≡ true → BadTexts (behind reply b) left → BadText reply s
+
+pub record ResponseMoments (kind : ℕ) : Type 0 where
+  -- "1 for no byte", whatever the request
+  pub none : responses.reading kind [] ≡ Got.refused MoreBytes
+  -- 2, for a kind that is none, at the first byte
+  pub unknown : (s : List ℕ) → (responses.reading kind s ≡ Got.refused UnknownInstruction) ↔ ((0 < length s) × (findOf kind ≡ Unknown))
+  pub more : (n : ℕ) (reply : Reply) → findOf kind ≡ Known n reply → (s : List ℕ) → (responses.reading kind s ≡ Got.refused MoreBytes) ↔ Begun (Encoded (response.Published reply) (response.encode reply)) s
+  pub soon : (n : ℕ) (reply : Reply) → findOf kind ≡ Known n reply → (s : List ℕ) → Otherwise (responses.reading kind s) ↔ Broken (Encoded (response.Published reply) (response.encode reply)) s
+  pub value : (n : ℕ) (reply : Reply) → findOf kind ≡ Known n reply → (s : List ℕ) → (responses.reading kind s ≡ Got.refused ValueNotAllowed) ↔ BadValue reply s
+  pub pair : (n : ℕ) (reply : Reply) → findOf kind ≡ Known n reply → (s : List ℕ) → (responses.reading kind s ≡ Got.refused BadEscape) ↔ BadText reply s
