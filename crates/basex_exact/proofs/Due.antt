@@ -27,6 +27,7 @@ use Rattle.basex_request.specs.Reading.{kindOf, textsOf}
 use Rattle.basex_request.specs.Writing.{requestOf, encodable, spelled, writtenAs, written, left}
 use Rattle.basex_request.proofs.Laws.{published-written, writing-exact, wrote-left}
 use Rattle.basex_request.proofs.Table.{command-one, command-starts, starts-command}
+use Rattle.basex_request.proofs.Written.{row-written}
 use Rattle.basex_response.specs.Writing.{inRoom}
 use Rattle.basex_exact.specs.Exactly.{Fits, Means, Unwritten}
 use Rattle.basex_exact.proofs.Chosen.{apart, chosen, exactly, roomed, room-back, no-room-back}
@@ -44,19 +45,10 @@ module _ (room at : ℕ) (text : List ℕ) where
   pub string-exactly : (y : Spelled) → (spelling room at text ≡ y) ↔ StringDue y
   string-exactly y = exactly StringDue (spelling room at text) (roomed StringDue room at (string text) (λ n f. f) (λ h. (refl, h))) y (string-back y)
 
--- every byte from 20 to FE stands for COMMAND
-row-written : (room kind : ℕ) (ts : List (List ℕ)) → written room kind ts ≡ written room (rowByte kind) ts
-unfolding written
-row-written room kind ts = by (startsCommand kind) refl
-  where
-    by : (f : Bool) → startsCommand kind ≡ f → writtenAs room kind (findOf kind) ts ≡ writtenAs room (if f 0x20 kind) (findOf (if f 0x20 kind)) ts
-    by true e = rw (starts-command kind e, starts-command 0x20 refl) refl
-    by false e = refl
-
 module _ (room kind : ℕ) (ts : List (List ℕ)) where
   -- the request that is meant is written as one of its own kind and texts
   meant : (q : Request) → Means kind ts q → written room kind ts ≡ written room (kindOf q) (padded (textsOf q))
-  meant q m = row-written room kind ts ∙ ap₂ (written room) (sym (m .named)) (sym (m .given))
+  meant q m = row-written kind ts room ∙ ap₂ (written room) (sym (m .named)) (sym (m .given))
 
   request-means : (q : Request) → Means kind ts q → request.Published q → written room kind ts ≡ inRoom room 0 (length (request.encode q))
   request-means q m p =

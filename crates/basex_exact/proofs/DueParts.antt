@@ -20,12 +20,14 @@ use Rattle.basex.specs.Kinds.{findOf, ahead, behind, listed, isFull, idAllowed,
 use Rattle.basex.specs.Response.{Item, Response, itemBytes, encode, ItemsAllowed, ListAllowed}
 use Rattle.basex.specs.Texts.{unused}
 use Rattle.basex_response.specs.Writing.{inRoom, leftAt, itemOf, itemWrittenAs, itemWritten, fullOf, endOf, endWrittenAs, endWritten, endBytes}
+use Rattle.basex_request.proofs.Written.{taken-or-empty}
 use Rattle.basex_response.proofs.Fields.{ahead-few, behind-few}
 use Rattle.basex_exact.specs.Calls.{uriOf}
 use Rattle.basex_exact.specs.Exactly.{Spare, Fits, MeansItem, ItemUnwritten, MeansEnd, EndUnwritten}
 use Rattle.basex_exact.proofs.Handed.{made}
 use Rattle.basex_exact.proofs.Chosen.{chosen, exactly, roomed, room-back, no-room-back}
-use Rattle.basex_exact.proofs.Spare.{spare-found, spare-unused, none-spare, taken-given, given-back}
+use Rattle.basex_exact.proofs.Spare.{spare-found, spare-unused, none-spare, given-back}
+use Rattle.basex_exact.proofs.Wrote.{uri-fits}
 
 -- the answer 8
 abbrev Eight : Spelled → Type 0
@@ -33,15 +35,6 @@ Eight x = x ≡ Refused ValueNotAllowed
 
 eight : {P : Type 0} → P → Eight (Refused ValueNotAllowed)
 eight p = refl
-
--- a URI is given only where the item has one
-uri-fits : (full : Bool) (i : Item) → if (hasUri full (i .id)) true (unused 0 (uriOf full i ∷ [])) ≡ true
-unfolding flatten
-uri-fits full i = by (hasUri full (i .id)) refl
-  where
-    by : (b : Bool) → hasUri full (i .id) ≡ b → if (hasUri full (i .id)) true (unused 0 (uriOf full i ∷ [])) ≡ true
-    by true p = rw p refl
-    by false p = rw p refl
 
 module _ (room at kind id : ℕ) (uri text : List ℕ) where
   item-means : (i : Item) → MeansItem kind id uri text i → itemWritten room at kind id uri text ≡ inRoom room at (length (itemBytes i))
@@ -188,9 +181,9 @@ module _ (room at kind : ℕ) (first second : List ℕ) (status : ℕ) (error : 
           published = record { first = length-take-le (ahead reply) (first ∷ second ∷ []) (omega arith); list = none-listed; ended = s; last = length-take-le (behind reply status) (error ∷ []) (omega arith) };
           bare = refl;
           state = refl;
-          one = taken-given (first ∷ second ∷ []) (ahead reply) 0 u;
-          two = taken-given (first ∷ second ∷ []) (ahead reply) 1 u;
-          last = taken-given (error ∷ []) (behind reply status) 0 v;
+          one = taken-or-empty (first ∷ second ∷ []) (ahead reply) 0 u;
+          two = taken-or-empty (first ∷ second ∷ []) (ahead reply) 1 u;
+          last = taken-or-empty (error ∷ []) (behind reply status) 0 v;
         }
 
   end-due : EndDue answer

@@ -70,14 +70,3 @@ given-back (u ∷ ts) [] h e = absurd (omega arith)
 given-back (u ∷ ts) (t ∷ g) h e =
     let i = given-back ts g (omega arith) (λ k l. e (suc k) (omega arith)) in
     (λ j. sym (e 0 (omega arith)) j ∷ i .0 j, i .1)
-
--- .. and the other way round: those that are taken are the texts given, empty ones behind them
-pub taken-given : (g : List (List ℕ)) (n k : ℕ) → unused n g ≡ true → getD (take n g) k [] ≡ getD g k []
-taken-given g n k u = by (ltb k n) refl
-  where
-    by : (f : Bool) → ltb k n ≡ f → getD (take n g) k [] ≡ getD g k []
-    by true e = getD-take n g k [] (ltb-true k n e)
-    by false e =
-        let h = ltb-false k n e in
-        let l = length-take n g in
-        List·getD-eq-default (take n g) [] (omega arith) ∙ sym (none-spare g n k u h)

@@ -20,7 +20,7 @@ use Rattle.basex_exact.specs.Calls.{uriOf, textOf, Output, further, wrot
 use Rattle.basex_exact.proofs.Handed.{made}
 
 -- an item's URI is given only where it has one
-uri-fits : (full : Bool) (i : Item) → if (hasUri full (i .id)) true (unused 0 (uriOf full i ∷ [])) ≡ true
+pub uri-fits : (full : Bool) (i : Item) → if (hasUri full (i .id)) true (unused 0 (uriOf full i ∷ [])) ≡ true
 unfolding flatten
 uri-fits full i = by (hasUri full (i .id)) refl
   where

@@ -69,7 +69,7 @@ published-left q p out n = let g = given q p in rw (g .found) (rw (g .meant) ref
 
 -- every byte from 20 to FE stands for COMMAND
 module _ (kind : ℕ) (ts : List (List ℕ)) where
-  row-written : (room : ℕ) → written room kind ts ≡ written room (rowByte kind) ts
+  pub row-written : (room : ℕ) → written room kind ts ≡ written room (rowByte kind) ts
   unfolding written
   row-written room = by (startsCommand kind) refl
     where
@@ -85,7 +85,7 @@ module _ (kind : ℕ) (ts : List (List ℕ)) where
       by false e = refl
 
 -- a text that is taken is there, and one that is not is empty
-taken-or-empty : (ts : List (List ℕ)) (n k : ℕ) → unused n ts ≡ true → getD (take n ts) k [] ≡ getD ts k []
+pub taken-or-empty : (ts : List (List ℕ)) (n k : ℕ) → unused n ts ≡ true → getD (take n ts) k [] ≡ getD ts k []
 taken-or-empty ts n k u = by (ltb k n) refl
   where
     empty : (l : List ℕ) → length l ≡ 0 → l ≡ []

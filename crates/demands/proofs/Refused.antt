@@ -1,4 +1,4 @@
--- Demand 1 of BaseX: which numbers each call refuses with, and that it then leaves every lent byte.
+-- Demand 1 of BaseX: when reading refuses, which numbers each call refuses with, and that it then leaves every lent byte.
 use mathlib.Core.Bool.{Bool, true, false}
 use mathlib.Core.List.{List, [], _∷_, flatten}
 use mathlib.Core.Logic.{_⊎_, inl, inr}
@@ -35,6 +35,7 @@ use Rattle.basex_response.specs.Reading.{allTexts}
 use Rattle.basex_response.specs.Writing.{inRoom, itemOf, itemWrittenAs, itemWritten, endOf, endWrittenAs, endWritten, leftAt}
 use Rattle.basex_exact.proofs.Laws.{refused-left}
 use Rattle.basex_exact.proofs.Listed.{OfFields}
+use Rattle.basex_exact.proofs.Moments.{string-moments, request-moments, item-moments, response-moments}
 use Rattle.basex_exact.proofs.Refusals.{reading-refuses}
 use Rattle.demands.specs.Demand1.{OneOf, BaseX}
 
@@ -143,6 +144,10 @@ end-unwritten out at kind first second status error bytes r e = refused-so out a
 pub basex : BaseX
 basex =
     record {
+      string-moments = string-moments;
+      request-moments = request-moments;
+      item-moments = item-moments;
+      response-moments = response-moments;
       string-refused = string-refused;
       string-unwritten = string-unwritten;
       request-refused = request-refused;

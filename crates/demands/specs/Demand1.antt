@@ -40,6 +40,7 @@ use Rattle.assembly.specs.Answers.{Reply, reply}
 use Rattle.assembly.specs.Joining.{joined}
 use Rattle.assembly.specs.Offered.{Offered}
 use Rattle.assembly.specs.Refusals.{RefusalLeaves}
+use Rattle.basex_exact.specs.Moments.{StringMoments, RequestMoments, ItemMoments, ResponseMoments}
 use Rattle.basex_string.specs.declared.Spelled.the-variants as spelled
 use Rattle.basex_string.specs.declared.StringAt.the-variants as string-at
 use Rattle.basex_string.specs.Answers as strings
@@ -93,8 +94,14 @@ pub record Parts : Type 0 where
   -- a refused part or end leaves the buffer, and the record but for the mark
   pub join-refused : (a : Assembly) (d : List ℕ) (m : Message) (n : ℕ) → reply (joined a (length d) m .answer) ≡ Reply.number n → RefusalLeaves a d m n
 
--- BaseX: the refusals that each call gives, and that a refused one leaves every lent byte
+-- BaseX
 pub record BaseX : Type 0 where
+  -- "Order: 1 for no byte, 2, then fields left to right: 1, 8, and 13 as soon as the pair is there": which refusal reading gives, and when, by the encodings alone. When writing refuses, and a call of reading with 10, is said with what they write and tell (`WrittenExactly`, `ToldExactly`, in demand 2)
+  pub string-moments : StringMoments
+  pub request-moments : RequestMoments
+  pub item-moments : (full : Bool) → ItemMoments full
+  pub response-moments : (kind : ℕ) → ResponseMoments kind
+  -- a refused call leaves every lent byte, and refuses with no other number
   pub string-refused : (b : List ℕ) (at : ℕ) (out : List ℕ) (to : ℕ) (r : Refusal) → decoded (length b) (length out) to (scan.reading (drop at b)) ≡ string-at.Refused r
       → OneOf (1 ∷ 10 ∷ 13 ∷ []) (numberOf r) × (strings.left out to (scan.reading (drop at b)) ≡ out)
   pub string-unwritten : (out : List ℕ) (at : ℕ) (text : List ℕ) (r : Refusal) → spelling (length out) at text ≡ spelled.Refused r
