@@ -1,13 +1,13 @@
 -- Strings where they stand in a slice: each starts where the one before it ends.
 use mathlib.Core.Path.{_≡_, refl, sym, ap, subst, _∙_}
-use mathlib.Core.List.{List, [], _∷_}
+use mathlib.Core.List.{List}
 use mathlib.Core.Bool.{Bool, true, false}
 use Prim.Native.Nat.{ℕ, suc, _+_, _-_, _≤_}
 use native.Mathlib.Omega.{arith}
 use lib.Dec.{ltb}
 use lib.ListN.{length, drop, length-drop}
 use borrow.Author.Tests.{ltb-false}
-use Rattle.wire.specs.Bytes.{if, placed}
+use Rattle.wire.specs.Bytes.{placed}
 use Rattle.wire.specs.Fields.{Got}
 use Rattle.wire.specs.declared.Refusal.{Refusal}
 use Rattle.basex_string.specs.declared.StringAt.the-variants as string-at
@@ -16,7 +16,7 @@ use Rattle.basex_string.specs.Scan.{reading}
 use Rattle.basex_string.specs.Strings.{string}
 use Rattle.basex_string.proofs.Laws.{next-field}
 use Rattle.basex.specs.declared.TwoAt.the-variants.{At, Refused}
-use Rattle.basex.specs.Texts.{texts, twoAt, Stored, stored}
+use Rattle.basex.specs.Texts.{texts, twoAt, stored}
 
 -- a string was read at `at`: its text, what stands behind it, and where that starts
 pub record Here (b : List ℕ) (at len next : ℕ) : Type 0 where

@@ -1,7 +1,7 @@
 -- Strings one behind the other: reading takes exactly what is written, and storing puts their texts one behind the other.
 use mathlib.Core.Path.{_≡_, refl, sym, ap, _∙_}
 use mathlib.Core.List.{List, [], _∷_, _++_, flatten, append-assoc}
-use mathlib.Core.Logic.{_⊎_, inl, inr}
+use mathlib.Core.Logic.{_⊎_}
 use Prim.Native.Nat.{ℕ, zero, suc, _+_, _≤_}
 use native.Mathlib.Omega.{arith}
 use lib.ListN.{length, length-append}
@@ -14,7 +14,7 @@ use Rattle.wire.proofs.Over.{length-over, over-over, over-none}
 use Rattle.basex_string.specs.Scan.{reading}
 use Rattle.basex_string.specs.Strings.{string}
 use Rattle.basex_string.proofs.Laws.{exact, read-written, refuses}
-use Rattle.basex.specs.Texts.{strings, texts, Stored, stored}
+use Rattle.basex.specs.Texts.{strings, texts, stored}
 
 -- the texts of strings that were read, behind one that was read first
 abbrev with : List ℕ → Got (List (List ℕ)) → Got (List (List ℕ))

@@ -18,7 +18,7 @@ use Rattle.basex_string.specs.declared.Spelled.the-variants.{Bytes, Refused}
 use Rattle.basex.specs.declared.Found.{Found}
 use Rattle.basex.specs.declared.Found.the-variants.{Known, Unknown}
 use Rattle.basex.specs.declared.Reply.{Reply}
-use Rattle.basex.specs.Kinds.{startsCommand, findOf, rowByte, isCommand}
+use Rattle.basex.specs.Kinds.{findOf, isCommand}
 use Rattle.basex.specs.Request as request
 use Rattle.basex.specs.Request.{Request}
 use Rattle.basex.specs.Texts.{unused}

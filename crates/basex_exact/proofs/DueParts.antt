@@ -1,6 +1,6 @@
 -- Writing a response item by item and its end: only published values are written, and every other call gets the refusal that is due.
 use mathlib.Core.Path.{_≡_, refl, sym, ap, subst, _∙_}
-use mathlib.Core.List.{List, [], _∷_, flatten}
+use mathlib.Core.List.{List, [], _∷_}
 use mathlib.Core.Bool.{Bool, true, false}
 use mathlib.Core.Logic.{_↔_}
 use Prim.Native.Nat.{ℕ, zero, suc, _+_, _≤_, _<_}
@@ -22,7 +22,6 @@ use Rattle.basex.specs.Texts.{unused}
 use Rattle.basex_response.specs.Writing.{inRoom, leftAt, itemOf, itemWrittenAs, itemWritten, fullOf, endOf, endWrittenAs, endWritten, endBytes}
 use Rattle.basex_request.proofs.Written.{taken-or-empty}
 use Rattle.basex_response.proofs.Fields.{ahead-few, behind-few}
-use Rattle.basex_exact.specs.Calls.{uriOf}
 use Rattle.basex_exact.specs.Exactly.{Spare, Fits, MeansItem, ItemUnwritten, MeansEnd, EndUnwritten}
 use Rattle.basex_exact.proofs.Handed.{made}
 use Rattle.basex_exact.proofs.Chosen.{chosen, exactly, roomed, room-back, no-room-back}

@@ -1,10 +1,10 @@
 -- A caller who walks the items gets each of them, with its id, URI and text.
-use mathlib.Core.Path.{_≡_, refl, sym, ap, ap₂, subst, _∙_}
+use mathlib.Core.Path.{_≡_, refl, sym, ap, ap₂, _∙_}
 use mathlib.Core.List.{List, [], _∷_, _++_, append-assoc, append-nil, flatten}
 use mathlib.Core.Bool.{Bool, true, false}
 use Prim.Native.Nat.{ℕ, zero, suc, _+_, _-_, _≤_}
 use native.Mathlib.Omega.{arith}
-use lib.ListN.{length, take, drop, getD, length-append}
+use lib.ListN.{length, take, drop, length-append}
 use lib.Seq.{drop-append-seam, take-append-seam}
 use Rattle.wire.specs.Bytes.{if}
 use Rattle.wire.specs.Fields.{Got}
@@ -13,7 +13,7 @@ use Rattle.basex.specs.Response.{Item, itemBytes, itemsBytes, ItemAllowed, Item
 use Rattle.basex_response.specs.declared.ItemAt.the-variants as item-at
 use Rattle.basex_response.specs.Items.{Next, next, itemTexts, uriLength, textLength, itemAt}
 use Rattle.basex_response.specs.Writing.{itemOf}
-use Rattle.basex_exact.specs.Calls.{taken, handed, uriOf, textOf}
+use Rattle.basex_exact.specs.Calls.{handed, uriOf, textOf}
 use Rattle.basex_exact.proofs.Listed.{next-item, next-end}
 
 pub flatten-append : (xs ys : List (List ℕ)) → flatten (xs ++ ys) ≡ flatten xs ++ flatten ys

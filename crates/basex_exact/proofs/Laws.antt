@@ -1,33 +1,28 @@
 -- Responses as a caller sees them: read after written, written after read, the items handed out, and refusals.
-use mathlib.Core.Path.{_≡_, refl, sym, ap, ap₂, subst, _∙_}
-use mathlib.Core.List.{List, [], _∷_, _++_, append-assoc, append-nil, flatten}
+use mathlib.Core.Path.{_≡_, refl, sym, ap, ap₂, _∙_}
+use mathlib.Core.List.{List, [], _∷_, _++_, append-assoc, flatten}
 use mathlib.Core.Bool.{Bool, true, false}
-use mathlib.Core.Logic.{_⊎_, inl, inr}
-use Prim.Native.Nat.{ℕ, zero, suc, _+_, _-_, _≤_, _<_}
+use Prim.Native.Nat.{ℕ, suc, _+_, _-_, _≤_, _<_}
 use native.Mathlib.Omega.{arith}
 use lib.Dec.{ltb}
 use lib.ListN.{length, take, drop, length-append}
-use lib.Seq.{drop-append-seam, take-append-seam}
-use borrow.Author.Tests.{ltb-true, ltb-false}
-use Rattle.wire.specs.Bytes.{if, over, placed}
-use Rattle.wire.specs.Fields.{Got, Field, goOn, give, judged}
+use lib.Seq.{take-append-seam}
+use borrow.Author.Tests.{ltb-true}
+use Rattle.wire.specs.Bytes.{over, placed}
+use Rattle.wire.specs.Fields.{Got}
 use Rattle.wire.specs.declared.Refusal.{Refusal}
-use Rattle.wire.specs.declared.Refusal.the-variants.{MoreBytes, UnknownInstruction, ValueNotAllowed, NoRoom, BadEscape}
-use Rattle.wire.proofs.Fields.{Split, stopped}
 use Rattle.wire.proofs.Over.{placed-fits, placed-not}
-use Rattle.basex.specs.declared.Found.{Found}
-use Rattle.basex.specs.declared.Found.the-variants.{Known, Unknown}
+use Rattle.basex.specs.declared.Found.the-variants.{Known}
 use Rattle.basex.specs.declared.Reply.{Reply}
 use Rattle.basex.specs.declared.Reply.the-variants.{Command, Stored, Query, Results, Full}
-use Rattle.basex.specs.Kinds.{findOf, ahead, behind, listed, isFull, statusAllowed}
-use Rattle.basex.specs.Response.{Item, Response, itemsBytes, listBytes, encode, ItemsAllowed, ListAllowed, Published, Stands}
+use Rattle.basex.specs.Kinds.{findOf, ahead, listed, isFull}
+use Rattle.basex.specs.Response.{Response, itemsBytes, listBytes, encode, ItemsAllowed, Published}
 use Rattle.basex.specs.Texts.{strings, texts}
-use Rattle.basex.proofs.Texts.{texts-refuses}
 use Rattle.basex_response.specs.declared.Replied.the-variants as replied
-use Rattle.basex_response.specs.Items.{Next, next, items, itemTexts}
-use Rattle.basex_response.specs.Reading.{byteField, listField, fieldsOf, reading, allTexts, answered, left}
+use Rattle.basex_response.specs.Items.{items, itemTexts}
+use Rattle.basex_response.specs.Reading.{reading, allTexts, answered, left}
 use Rattle.basex_response.specs.Writing.{fullOf}
-use Rattle.basex_exact.specs.Calls.{Output, listedOf, handed, responded}
+use Rattle.basex_exact.specs.Calls.{listedOf, handed, responded}
 use Rattle.basex_exact.proofs.Handed.{flatten-append, items-handed}
 use Rattle.basex_exact.proofs.Responses.{response-exact}
 use Rattle.basex_exact.proofs.Wrote.{response-written}

@@ -3,7 +3,7 @@ use mathlib.Core.Path.{_≡_, refl, sym, ap, subst, _∙_}
 use mathlib.Core.List.{List, [], _∷_, _++_, append-assoc}
 use mathlib.Core.Bool.{Bool, true, false}
 use mathlib.Core.Logic.{_⊎_, inl, inr}
-use Prim.Native.Nat.{ℕ, zero, suc, _+_, _≤_, _<_}
+use Prim.Native.Nat.{ℕ, zero, suc, _+_, _<_}
 use native.Mathlib.Omega.{arith}
 use lib.Dec.{eqb}
 use lib.ListN.{length, length-append}
@@ -17,7 +17,7 @@ use Rattle.basex.specs.Kinds.{idAllowed, itemStrings}
 use Rattle.basex.specs.Response.{Item, itemBytes, itemsBytes, ItemAllowed, ItemsAllowed}
 use Rattle.basex.specs.Texts.{strings, texts}
 use Rattle.basex.proofs.Texts.{texts-exact, texts-written, texts-refuses}
-use Rattle.basex_response.specs.Items.{Next, next, onNext, items}
+use Rattle.basex_response.specs.Items.{Next, next, items}
 
 -- what was got is the one thing
 pub same : {A : Type 0} {a b : A} {s t : List ℕ} → Got.got a s ≡ Got.got b t → (a ≡ b) × (s ≡ t)

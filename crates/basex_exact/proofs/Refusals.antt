@@ -9,7 +9,7 @@ use lib.ListN.{length}
 use Rattle.wire.specs.Bytes.{if}
 use Rattle.wire.specs.Fields.{Got, Field, goOn, give, judged}
 use Rattle.wire.specs.declared.Refusal.{Refusal}
-use Rattle.wire.specs.declared.Refusal.the-variants.{MoreBytes, UnknownInstruction, ValueNotAllowed}
+use Rattle.wire.specs.declared.Refusal.the-variants.{UnknownInstruction, ValueNotAllowed}
 use Rattle.wire.proofs.Fields.{Split, stopped}
 use Rattle.basex.specs.declared.Found.{Found}
 use Rattle.basex.specs.declared.Found.the-variants.{Known, Unknown}

@@ -8,9 +8,8 @@ use native.Mathlib.Omega.{arith}
 use lib.ListN.{length}
 use Rattle.wire.specs.Bytes.{if}
 use Rattle.wire.specs.Fields.{Got, Field, goOn, give, judged}
-use Rattle.wire.specs.declared.Refusal.{Refusal}
 use Rattle.wire.specs.declared.Refusal.the-variants.{ValueNotAllowed, MoreBytes, UnknownInstruction}
-use Rattle.wire.proofs.Fields.{Split, split, held}
+use Rattle.wire.proofs.Fields.{split, held}
 use Rattle.basex_string.specs.Scan.{scan}
 use Rattle.basex.specs.declared.Found.{Found}
 use Rattle.basex.specs.declared.Found.the-variants.{Known, Unknown}
@@ -21,7 +20,7 @@ use Rattle.basex.specs.Response.{Item, Response, itemsBytes, listBytes, encode,
 use Rattle.basex.specs.Texts.{strings, texts}
 use Rattle.basex.proofs.Texts.{texts-exact, texts-written}
 use Rattle.basex_response.specs.Items.{items, list}
-use Rattle.basex_response.specs.Reading.{byteField, listField, fieldsOf, readingAs, reading}
+use Rattle.basex_response.specs.Reading.{byteField, listField, fieldsOf, reading}
 use Rattle.basex_exact.proofs.Listed.{same, items-exact, items-written, items-few}
 
 module _ (reply : Reply) where

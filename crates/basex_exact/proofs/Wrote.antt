@@ -1,6 +1,6 @@
 -- A response that is written item by item, and then its end, is its encoding.
 use mathlib.Core.Path.{_≡_, refl, sym, ap, ap₂, subst, _∙_}
-use mathlib.Core.List.{List, [], _∷_, _++_, append-assoc, append-nil, flatten}
+use mathlib.Core.List.{List, [], _∷_, _++_, append-assoc, flatten}
 use mathlib.Core.Bool.{Bool, true, false}
 use Prim.Native.Nat.{ℕ, _+_, _≤_}
 use native.Mathlib.Omega.{arith}
@@ -8,15 +8,15 @@ use lib.ListN.{length, getD, take, length-append}
 use borrow.Author.Tests.{le-ltb, leb-true}
 use Rattle.wire.specs.Bytes.{if, over, placed}
 use Rattle.wire.proofs.Over.{length-over, over-over, over-none, placed-fits}
-use Rattle.basex_string.specs.declared.Spelled.the-variants.{Bytes, Refused}
+use Rattle.basex_string.specs.declared.Spelled.the-variants.{Bytes}
 use Rattle.basex.specs.declared.Found.the-variants.{Known}
 use Rattle.basex.specs.declared.Reply.{Reply}
 use Rattle.basex.specs.declared.Reply.the-variants.{Command, Stored, Query, Results, Full}
-use Rattle.basex.specs.Kinds.{findOf, hasUri, idAllowed, itemStrings, listed, isFull, ahead, behind, statusAllowed}
+use Rattle.basex.specs.Kinds.{findOf, hasUri, listed, isFull, ahead, behind}
 use Rattle.basex.specs.Response.{Item, Response, itemBytes, itemsBytes, listBytes, encode, ItemAllowed, ItemsAllowed, ListAllowed, Published}
 use Rattle.basex.specs.Texts.{strings, unused}
-use Rattle.basex_response.specs.Writing.{itemOf, itemWritten, inRoom, fullOf, endOf, endWritten, endBytes, leftAt}
-use Rattle.basex_exact.specs.Calls.{uriOf, textOf, Output, further, wrote, responded}
+use Rattle.basex_response.specs.Writing.{itemOf, itemWritten, inRoom, fullOf, endOf, endWritten, endBytes}
+use Rattle.basex_exact.specs.Calls.{uriOf, textOf, Output, wrote, responded}
 use Rattle.basex_exact.proofs.Handed.{made}
 
 -- an item's URI is given only where it has one

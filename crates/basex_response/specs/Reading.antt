@@ -1,5 +1,4 @@
 -- Document 01, "Responses are read knowing the request": what reading one answers.
-use mathlib.Core.Bool.{Bool}
 use mathlib.Core.List.{List, [], _∷_, _++_, flatten}
 use Prim.Native.Nat.{ℕ, _-_}
 use lib.Dec.{ltb}

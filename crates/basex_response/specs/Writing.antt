@@ -1,6 +1,6 @@
 -- Document 01, "When writing or cutting: 2, 8, 11, 14, 10": what writing a response answers, item by item and then its end, and what it leaves in the lent output.
 use mathlib.Core.Bool.{Bool, true, false}
-use mathlib.Core.List.{List, [], _∷_, _++_}
+use mathlib.Core.List.{List, [], _∷_}
 use Prim.Native.Nat.{ℕ, _+_}
 use lib.Dec.{ltb}
 use lib.ListN.{length, take}

@@ -15,10 +15,10 @@ use Rattle.sedna_read.specs.Reading.{Answer, reading}
 use Rattle.grammar.proofs.One.{one-layout}
 use Rattle.session.specs.declared.Session.{Session}
 use Rattle.session.specs.Machine.{refused, next}
-use Rattle.session.specs.Step.{freshSession, Outcome, outcome, settled, versionAfter, stepped, closedOf}
+use Rattle.session.specs.Step.{freshSession, Outcome, outcome, settled, versionAfter, stepped}
 use Rattle.session_exact.proofs.Follows.{Follows, fresh-follows, begins, whole-closed, Settled, settles, taken, nine}
 use Rattle.session_exact.proofs.Published.{published-sent, published-exact}
-use Rattle.demands.specs.Demand3.{Form, Offer, Done, Right, messages, Judged, answersFrom, left, After, step, Demand3}
+use Rattle.demands.specs.Demand3.{Form, Offer, Done, Right, messages, Judged, answersFrom, left, step, Demand3}
 
 module _ (o : Offer) where
   abbrev read : Answer

@@ -2,11 +2,11 @@
 use mathlib.Core.Bool.{Bool, true, false}
 use mathlib.Core.List.{List, [], _∷_, _++_, append-nil}
 use mathlib.Core.Logic.{_↔_}
-use mathlib.Core.Path.{_≡_, refl, sym, ap, subst, _∙_}
-use Prim.Native.Nat.{ℕ, _-_, _≤_, _<_}
+use mathlib.Core.Path.{_≡_, refl, sym, subst, _∙_}
+use Prim.Native.Nat.{ℕ, _-_, _≤_}
 use native.Mathlib.Omega.{arith}
 use lib.Dec.{eqb, ltb}
-use lib.ListN.{length, drop}
+use lib.ListN.{length}
 use borrow.Author.Tests.{lt-ltb, le-ltb, ltb-true, ltb-false, eqb-true, eqb-false}
 use Rattle.wire.specs.Bytes.{if}
 use Rattle.wire.specs.declared.Refusal.{Refusal}
@@ -15,20 +15,17 @@ use Rattle.wire.specs.Refusals.{refusalCode}
 use Rattle.sedna.specs.declared.Side.{Side}
 use Rattle.sedna.specs.declared.Side.the-variants.{Client, Server}
 use Rattle.sedna.specs.Message.{Message}
-use Rattle.sedna_read.specs.declared.Reading.the-variants as read
-use Rattle.sedna_read.specs.Places.{placesOf}
 use Rattle.sedna_read.specs.Reading.{Answer, reading}
 use Rattle.sedna_exact.proofs.Branches.{apart}
 use Rattle.sedna_exact.proofs.Exact.{exact}
-use Rattle.grammar.specs.Conversation.{Whole, Begins}
+use Rattle.grammar.specs.Conversation.{Whole}
 use Rattle.session.specs.declared.Session.{Session}
 use Rattle.session.specs.declared.Stepped.{Stepped}
-use Rattle.session.specs.Machine.{next}
-use Rattle.session.specs.Step.{freshSession, Outcome, outcome, settled, told, stepped, closedOf}
+use Rattle.session.specs.Step.{freshSession, Outcome, outcome, told, stepped, closedOf}
 use Rattle.session_exact.proofs.Follows.{Follows, fresh-follows, begins, whole-closed, Settled, settles, taken, nine}
 use Rattle.session_exact.proofs.Published.{published-sent}
-use Rattle.sedna_c.specs.Codes.{readCode, fieldsLeft, fieldsOf}
-use Rattle.sedna_c.specs.Sessions.{recordIn, recordPut, freshCode, freshLeft, sideStepped, kept, stepCode, stepLeft, stepFields, closedCode}
+use Rattle.sedna_c.specs.Codes.{readCode, fieldsLeft}
+use Rattle.sedna_c.specs.Sessions.{recordIn, recordPut, sideStepped, kept, closedCode}
 use Rattle.demands.specs.Exports.{Call, Called, called, SideOf, client, server, Why, Right, After, Demand3Exports}
 
 -- what a call makes of a step

@@ -59,7 +59,7 @@ use Rattle.basex_request.specs.Writing as requesting
 use Rattle.basex_response.specs.Reading as responses
 use Rattle.basex_response.specs.Reading.{allTexts}
 use Rattle.basex_response.specs.Writing.{fullOf}
-use Rattle.basex_exact.specs.Calls.{Output, listedOf, handed, responded}
+use Rattle.basex_exact.specs.Calls.{listedOf, handed, responded}
 use Rattle.basex_exact.specs.Exactly.{WrittenExactly, ToldExactly, InputSuffices, ErrorsExactly}
 
 -- Sedna's messages, read by the side that sent them. The bytes of a slice are bytes: `IsBytes s` is no condition on a caller

@@ -1,17 +1,17 @@
 -- Bodies that a cut writes are published: they have room for the text that it gives them.
-use mathlib.Core.Bool.{Bool, true}
+use mathlib.Core.Bool.{true}
 use mathlib.Core.List.{List}
 use mathlib.Core.Path.{_≡_, refl}
 use Prim.Native.Nat.{ℕ, _+_, _≤_}
 use native.Mathlib.Omega.{arith}
 use lib.ListN.{length, length-append}
-use Rattle.wire.specs.Bytes.{if, int}
+use Rattle.wire.specs.Bytes.{int}
 use Rattle.sedna.specs.declared.Side.the-variants.{Client, Server}
 use Rattle.sedna.specs.declared.Shape.the-variants.{Empty, Text, Statement, Item}
 use Rattle.sedna.specs.declared.Found.the-variants.{Known}
-use Rattle.sedna.specs.Allowed.{formatAllowed, classAllowed, typeAllowed, allowed}
+use Rattle.sedna.specs.Allowed.{formatAllowed, allowed}
 use Rattle.sedna.specs.Encode.{string, urlBytes, bodyBytes}
-use Rattle.sedna.specs.Message.{Url, Body, Message, message}
+use Rattle.sedna.specs.Message.{Url, Body, message}
 use Rattle.sedna.specs.Names as M
 use Rattle.sedna.specs.Published.{Published}
 use Rattle.sedna.specs.Table.{rows, search, findOf}

@@ -1,7 +1,7 @@
 -- A cut's messages are published, and in their order they are a statement's text, or an item, of the grammar.
 use mathlib.Core.Bool.{Bool, true, false}
-use mathlib.Core.List.{List, [], _∷_, _++_, map, append-assoc, List·Memᴰ, List·Memᴰ·head, List·Memᴰ·tail}
-use mathlib.Core.Path.{_≡_, refl, sym, _∙_, ap, subst}
+use mathlib.Core.List.{List, [], _∷_, _++_, map, List·Memᴰ, List·Memᴰ·head, List·Memᴰ·tail}
+use mathlib.Core.Path.{_≡_, refl, sym, _∙_, ap}
 use Prim.Native.Nat.{ℕ, zero, suc, _≤_, _<_}
 use native.Mathlib.Omega.{arith}
 use lib.Dec.{T, leb}
@@ -9,15 +9,13 @@ use lib.ListN.{length, take, drop, length-take}
 use borrow.Author.Tests.{leb-true, leb-false}
 use Rattle.sedna.specs.declared.Side.{Side}
 use Rattle.sedna.specs.declared.Side.the-variants.{Client, Server}
-use Rattle.sedna.specs.declared.Shape.the-variants.{Statement}
-use Rattle.sedna.specs.declared.Found.the-variants.{Known}
-use Rattle.sedna.specs.Allowed.{formatAllowed, classAllowed, typeAllowed, allowed}
+use Rattle.sedna.specs.Allowed.{formatAllowed, allowed}
 use Rattle.sedna.specs.Message.{Url, Body, Message, message}
 use Rattle.sedna.specs.Names as M
 use Rattle.sedna.specs.Published.{Published}
 use Rattle.sedna.specs.Table.{rows, search, findOf}
 use Rattle.grammar.specs.Sent.{Sent, Version, from, upTo}
-use Rattle.grammar.specs.Grammar.{Plus, plus, Request, execute, execute-long, Within, within-part, Item, parts, started}
+use Rattle.grammar.specs.Grammar.{plus, Request, execute, execute-long, Within, within-part, Item, parts, started}
 use Rattle.grammar.specs.Layout.{one, each, flatRequest, flatWithin, flatItem}
 use Rattle.session_exact.proofs.Published.{published-sent}
 use Rattle.fragments.specs.Cut.{statementRoom, partRoom, startRoom, pieces, cutStatement, itemParts, cutItem, cutTypedItem}

@@ -1,25 +1,22 @@
 -- The cuts fill their messages, and a URL leaves room exactly where its ItemStart has an encoding.
-use mathlib.Core.Bool.{Bool, true, false}
 use mathlib.Core.List.{List, [], _∷_, _++_, map}
 use mathlib.Core.Logic.{_↔_}
-use mathlib.Core.Path.{_≡_, refl, sym, ap, _∙_}
+use mathlib.Core.Path.{_≡_}
 use Prim.Native.Nat.{ℕ, zero, suc, _+_, _-_, _≤_, _<_}
 use native.Mathlib.Omega.{arith}
 use lib.Dec.{leb}
-use lib.ListN.{length, take, drop, length-append, length-drop, length-map}
+use lib.ListN.{length, take, drop, length-append, length-drop}
 use lib.Seq.{length-take-le}
-use borrow.Author.Tests.{leb-true, leb-false}
 use Rattle.wire.specs.Bytes.{if}
 use Rattle.wire.specs.declared.Refusal.the-variants.{NoEncoding}
 use Rattle.sedna.specs.Encode.{string, urlBytes, bodyBytes}
 use Rattle.sedna.specs.Message.{Url, Body, Message, message}
 use Rattle.sedna.specs.Names as M
 use Rattle.fragments.specs.declared.Parts.the-variants as parts
-use Rattle.fragments.specs.Cut.{piecesUpTo, pieces, statementRoom, partRoom, startRoom, cutStatement, itemParts, cutItem, cutTypedItem}
+use Rattle.fragments.specs.Cut.{piecesUpTo, pieces, statementRoom, partRoom, startRoom, cutStatement, cutItem, cutTypedItem}
 use Rattle.fragments.specs.Part.{urlParts}
 use Rattle.fragments.proofs.Counts.{typed-item-counted}
-use Rattle.fragments.proofs.Cuts.{longParts, longEnd, cut-long}
-use Rattle.fragments.proofs.Pieces.{shorter}
+use Rattle.fragments.proofs.Cuts.{longParts, cut-long}
 use Rattle.fragments_exact.specs.Filled.{Filled}
 use Rattle.fragments_exact.specs.Rejoined.{UrlFits}
 use Rattle.fragments_exact.proofs.Bodies.{string-length}

@@ -1,6 +1,6 @@
 -- Cutting, then joining, is the identity.
 use mathlib.Core.Bool.{Bool, true, false}
-use mathlib.Core.List.{List, [], _∷_, _++_, map, flatten, append-nil, append-assoc}
+use mathlib.Core.List.{List, [], _∷_, _++_, map, flatten, append-nil}
 use mathlib.Core.Path.{_≡_, refl, sym, _∙_, ap, subst}
 use Prim.Native.Nat.{ℕ, _<_}
 use native.Mathlib.Omega.{arith}
@@ -10,7 +10,7 @@ use borrow.Author.Tests.{leb-true, leb-false}
 use Rattle.sedna.specs.Allowed.{formatAllowed, allowed}
 use Rattle.sedna.specs.Message.{Url, Body, Message, message}
 use Rattle.sedna.specs.Names as M
-use Rattle.fragments.specs.Cut.{statementRoom, partRoom, startRoom, pieces, cutStatement, itemParts, cutItem, cutTypedItem}
+use Rattle.fragments.specs.Cut.{statementRoom, partRoom, startRoom, pieces, cutStatement, cutItem, cutTypedItem}
 use Rattle.fragments.proofs.Cuts.{cut-sole, cut-long}
 use Rattle.fragments.proofs.Joined.{pieces-joined, first-joined}
 use Rattle.assembly.specs.declared.Open.the-variants as gathering

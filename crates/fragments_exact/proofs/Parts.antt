@@ -1,9 +1,9 @@
 -- What writing a part of a cut answers, and that what was written is read again as that part.
 use mathlib.Core.Bool.{Bool, true, false}
 use mathlib.Core.List.{List, [], _∷_}
-use mathlib.Core.Option.{Option, none, some}
+use mathlib.Core.Option.{none, some}
 use mathlib.Core.Path.{_≡_, refl, sym, ap, subst, _∙_}
-use Prim.Native.Nat.{ℕ, zero, suc, _≤_, _<_}
+use Prim.Native.Nat.{ℕ, zero, suc, _≤_}
 use native.Mathlib.Omega.{arith}
 use lib.Dec.{ltb}
 use lib.ListN.{length, getElem?}
@@ -18,7 +18,6 @@ use Rattle.sedna.specs.Published.{Published}
 use Rattle.sedna_read.specs.Meaning.{meaning}
 use Rattle.sedna_read.specs.Places.{located}
 use Rattle.sedna_read.specs.Reading.{Answer, reading}
-use Rattle.sedna_write.specs.declared.Written.{Written}
 use Rattle.sedna_write.specs.declared.Written.the-variants.{Bytes, Refused}
 use Rattle.sedna_write.specs.Writing.{written, left}
 use Rattle.sedna_exact.specs.Unwritten.{Unwritten}

@@ -1,7 +1,6 @@
 -- A cut fills each message before it starts the next: "parts of 10,234 with the rest … last".
 use mathlib.Core.List.{List, [], _∷_}
 use mathlib.Core.Path.{_≡_}
-use Prim.Native.Nat.{ℕ, _<_}
 use lib.ListN.{length}
 use Rattle.sedna.specs.Encode.{bodyBytes}
 use Rattle.sedna.specs.Message.{Message}

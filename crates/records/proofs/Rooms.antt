@@ -15,7 +15,6 @@ use Rattle.session.specs.declared.Session.{Session}
 use Rattle.records.specs.declared.Answered.{Answered}
 use Rattle.records.specs.declared.Lined.{Lined}
 use Rattle.records.specs.declared.Lined.the-variants as lined
-use Rattle.records.specs.declared.Put.{Put}
 use Rattle.records.specs.declared.Put.the-variants as put
 use Rattle.records.specs.declared.Widths.{Widths}
 use Rattle.records.specs.Answer.{answered}

@@ -7,7 +7,6 @@ use lib.Dec.{eqb}
 use Rattle.wire.specs.Bytes.{if, intAt}
 use Rattle.wire.specs.declared.Refusal.the-variants.{ValueNotAllowed}
 use Rattle.sedna.specs.declared.Side.the-variants.{Client, Server}
-use Rattle.sedna_read.specs.declared.Reading.{Reading}
 use Rattle.sedna_read.specs.declared.Reading.the-variants as read
 use Rattle.sedna_read.specs.Places.{located}
 use Rattle.sedna_read.specs.Reading.{reading}

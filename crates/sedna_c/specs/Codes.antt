@@ -5,7 +5,6 @@ use lib.Dec.{eqb, ltb}
 use lib.ListN.{length, drop}
 use Rattle.wire.specs.Bytes.{if}
 use Rattle.wire.specs.declared.Place.{Place}
-use Rattle.wire.specs.declared.Refusal.{Refusal}
 use Rattle.wire.specs.declared.Refusal.the-variants.{ValueNotAllowed, NoRoom}
 use Rattle.wire.specs.Refusals.{refusalCode}
 use Rattle.sedna.specs.declared.Side.the-variants.{Client, Server}

@@ -5,7 +5,7 @@ use mathlib.Core.Path.{_≡_, refl, sym, ap, _∙_}
 use Prim.Native.Nat.{ℕ, zero, suc, _+_, _-_, _≤_, _<_}
 use native.Mathlib.Omega.{arith}
 use lib.Dec.{ltb, leb, eqb}
-use lib.ListN.{length, take, drop, getD, replicate, length-append, length-replicate, drop-of-length-le}
+use lib.ListN.{length, take, drop, replicate, length-append, length-replicate, drop-of-length-le}
 use borrow.Author.Tests.{le-ltb, ltb-true}
 use Rattle.wire.specs.Bytes.{IsBytes, if, int, intAt}
 use Rattle.wire.specs.Fields.{Got, Field, goOn, _>>=_, _>>_, give, judged}
@@ -19,8 +19,8 @@ use Rattle.sedna.specs.Message.{Url, Pair, Body}
 use Rattle.sedna_read.specs.Fields.{byteField, intField, bytesField, stringField}
 use Rattle.sedna_read.specs.Reading.{sessionFields, textFields, statementFields, codedFields, pairField, pairsField, optionsFields, urlField, itemFields, fieldsOf}
 use Rattle.sedna_exact.proofs.Branches.{apart, either}
-use Rattle.sedna_exact.proofs.Bytes.{bytes-front, bytes-behind}
-use Rattle.sedna_exact.proofs.Fields.{byte-back, int-forth, int-back, string-forth, string-back}
+use Rattle.sedna_exact.proofs.Bytes.{bytes-behind}
+use Rattle.sedna_exact.proofs.Fields.{int-forth, int-back, string-forth, string-back}
 use Rattle.sedna_exact.proofs.Pairs.{pair-forth, pair-back}
 use Rattle.sedna_exact.proofs.Persist.{goes}
 use Rattle.sedna_exact.proofs.Steps.{Forth, Back}

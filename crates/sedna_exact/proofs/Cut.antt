@@ -16,11 +16,11 @@ use Rattle.sedna.specs.declared.Shape.{Shape}
 use Rattle.sedna.specs.declared.Shape.the-variants as shape
 use Rattle.sedna.specs.Encode.{bodyBytes}
 use Rattle.sedna.specs.Kinds.{sameShape}
-use Rattle.sedna.specs.Message.{Body, shapeOf}
+use Rattle.sedna.specs.Message.{Body}
 use Rattle.sedna_read.specs.Fields.{nothingLeft}
 use Rattle.sedna_read.specs.Reading.{sessionFields, fieldsOf, bodyField}
 use Rattle.sedna_exact.specs.Due.{IsBody, CutShort, LeftOver}
-use Rattle.sedna_exact.proofs.Bodies.{fields-forth, fields-back, body-forth, body-back}
+use Rattle.sedna_exact.proofs.Bodies.{fields-back, body-forth, body-back}
 use Rattle.sedna_exact.proofs.Branches.{apart}
 use Rattle.sedna_exact.proofs.Completes.{bytes-both, fields-complete}
 use Rattle.sedna_exact.proofs.LeftOver.{left-over-exact}

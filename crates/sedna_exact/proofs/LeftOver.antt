@@ -2,13 +2,13 @@
 use mathlib.Core.List.{List, [], _∷_, _++_}
 use mathlib.Core.Logic.{_↔_}
 use mathlib.Core.Path.{_≡_, refl, sym, ap, subst, _∙_}
-use Prim.Native.Nat.{ℕ, zero, suc, _≤_, _<_}
+use Prim.Native.Nat.{ℕ, zero, suc, _≤_}
 use native.Mathlib.Omega.{arith}
 use lib.ListN.{length, length-append}
 use Rattle.wire.specs.Bytes.{IsBytes, int}
 use Rattle.wire.specs.Fields.{Got, goOn, _>>_, give}
 use Rattle.wire.specs.declared.Refusal.{Refusal}
-use Rattle.wire.specs.declared.Refusal.the-variants.{FieldCut, StringFormat, BytesLeftOver, ValueNotAllowed}
+use Rattle.wire.specs.declared.Refusal.the-variants.{BytesLeftOver}
 use Rattle.wire.specs.Refusals.{numberOf}
 use Rattle.sedna.specs.declared.Shape.{Shape}
 use Rattle.sedna.specs.declared.Shape.the-variants as shape

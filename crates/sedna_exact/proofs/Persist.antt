@@ -1,7 +1,7 @@
 -- "6 or 8 as soon as the byte is there": such a refusal stands, whatever bytes follow.
 use mathlib.Core.Bool.{Bool, true, false}
 use mathlib.Core.List.{List, [], _∷_, _++_, append-assoc}
-use mathlib.Core.Path.{_≡_, refl, sym, ap, subst, _∙_}
+use mathlib.Core.Path.{_≡_, refl, sym, ap, _∙_}
 use Prim.Native.Nat.{ℕ, zero, suc, _≤_}
 use native.Mathlib.Omega.{arith}
 use lib.Dec.{ltb, leb, eqb}
@@ -17,7 +17,7 @@ use Rattle.sedna.specs.Encode.{string, urlBytes, pairBytes}
 use Rattle.sedna.specs.Message.{Url, Pair, Body}
 use Rattle.sedna_read.specs.Fields.{byteField, intField, bytesField, stringField}
 use Rattle.sedna_read.specs.Reading.{sessionFields, textFields, statementFields, codedFields, pairField, pairsField, optionsFields, urlField, itemFields, fieldsOf}
-use Rattle.sedna_exact.proofs.Branches.{apart, either}
+use Rattle.sedna_exact.proofs.Branches.{apart}
 use Rattle.sedna_exact.proofs.Bytes.{bytes-front, bytes-behind}
 use Rattle.sedna_exact.proofs.Fields.{byte-back, int-forth, int-back, string-forth, string-back}
 use Rattle.sedna_exact.proofs.Pairs.{pair-forth, pair-back}

@@ -2,24 +2,22 @@
 use mathlib.Core.Bool.{Bool, true, false}
 use mathlib.Core.Logic.{_↔_}
 use mathlib.Core.Path.{_≡_, refl, sym, ap, subst, _∙_}
-use Prim.Native.Nat.{ℕ, _+_, _≤_, _<_}
+use Prim.Native.Nat.{ℕ, _+_, _<_}
 use native.Mathlib.Omega.{arith}
 use lib.Dec.{ltb}
 use lib.ListN.{length}
 use borrow.Author.Tests.{lt-ltb, le-ltb, ltb-true, ltb-false, eq-eqb}
 use Rattle.wire.specs.declared.Refusal.{Refusal}
-use Rattle.wire.specs.declared.Refusal.the-variants.{UnknownInstruction, ValueNotAllowed, NoEncoding, NoRoom}
-use Rattle.sedna.specs.declared.Entry.{Entry}
+use Rattle.wire.specs.declared.Refusal.the-variants.{ValueNotAllowed}
 use Rattle.sedna.specs.declared.Found.{Found}
 use Rattle.sedna.specs.declared.Found.the-variants.{Known, Unknown}
 use Rattle.sedna.specs.declared.Shape.{Shape}
 use Rattle.sedna.specs.declared.Side.{Side}
 use Rattle.sedna.specs.Allowed.{allowed}
-use Rattle.sedna.specs.Encode.{bodyBytes, encode}
+use Rattle.sedna.specs.Encode.{bodyBytes}
 use Rattle.sedna.specs.Kinds.{shapeNumber, sameShape}
 use Rattle.sedna.specs.Message.{Message, shapeOf}
 use Rattle.sedna.specs.Table.{InTable, findOf}
-use Rattle.sedna_write.specs.declared.Written.{Written}
 use Rattle.sedna_write.specs.declared.Written.the-variants.{Refused}
 use Rattle.sedna_write.specs.Writing.{judgedAs, judgement, written}
 use Rattle.sedna_exact.specs.Unwritten.{Unwritten}

@@ -13,7 +13,7 @@ use Rattle.sedna.specs.declared.Found.the-variants as found
 use Rattle.sedna.specs.Allowed.{allowed}
 use Rattle.sedna.specs.Encode.{bodyBytes, encode}
 use Rattle.sedna.specs.Kinds.{sameShape}
-use Rattle.sedna.specs.Message.{Body, Message, shapeOf, message}
+use Rattle.sedna.specs.Message.{Message, shapeOf}
 use Rattle.sedna.specs.Table.{findOf}
 use Rattle.sedna_write.specs.declared.Written.{Written}
 use Rattle.sedna_write.specs.declared.Written.the-variants.{Bytes, Refused}

@@ -8,7 +8,6 @@ use lib.Dec.{eqb, ltb}
 use lib.ListN.{length, take, drop}
 use Rattle.wire.specs.Bytes.{if, intAt}
 use Rattle.wire.specs.declared.Refusal.the-variants.{MoreBytes}
-use Rattle.sedna.specs.declared.Shape.{Shape}
 use Rattle.sedna.specs.declared.Side.{Side}
 use Rattle.sedna.specs.Message.{Body, Message}
 use Rattle.sedna_read.specs.declared.Reading.{Reading}

@@ -11,7 +11,6 @@ use Rattle.wire.specs.declared.Refusal.the-variants.{OutOfOrder}
 use Rattle.sedna.specs.Message.{Message, message}
 use Rattle.sedna_read.specs.Reading.{Answer}
 use Rattle.grammar.specs.Conversation.{Whole, Begins}
-use Rattle.grammar.specs.Layout.{flat}
 use Rattle.grammar.specs.Sent.{Version, published}
 use Rattle.grammar.proofs.Arrow.{Rest, lay, Arrow, find, find-kind}
 use Rattle.grammar.proofs.Back.{to, laid-to}

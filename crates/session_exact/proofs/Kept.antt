@@ -15,7 +15,6 @@ use Rattle.grammar.proofs.Arrow.{Arrow, Row}
 use Rattle.grammar.proofs.Phase.{Phase}
 use Rattle.grammar.proofs.Phase as P
 use Rattle.grammar.proofs.Rows.{row}
-use Rattle.session.specs.Machine as Mach
 use Rattle.session.specs.Machine.{Way, clientRows, serverRows}
 use Rattle.session_exact.proofs.Codes.{code}
 

@@ -8,7 +8,6 @@ use lib.Dec.{T, eqb}
 use lib.ListN.{getD}
 use borrow.Author.Tests.{eqb-true}
 use Rattle.wire.specs.Bytes.{if}
-use Rattle.sedna.specs.declared.Side.{Side}
 use Rattle.sedna.specs.declared.Side.the-variants.{Client, Server}
 use Rattle.sedna.specs.declared.Found.{Found}
 use Rattle.sedna.specs.declared.Found.the-variants.{Known, Unknown}

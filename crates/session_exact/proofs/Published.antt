@@ -3,19 +3,18 @@ use mathlib.Core.Bool.{Bool, true, false}
 use mathlib.Core.Logic.{_↔_}
 use mathlib.Core.Path.{_≡_, refl, sym, _∙_, ap, subst}
 use Prim.Native.Nat.{ℕ, _≤_}
-use lib.Dec.{T, leb, eqb}
+use lib.Dec.{T}
 use lib.ListN.{length}
 use borrow.Author.Tests.{le-leb, leb-true, eq-eqb}
-use Rattle.wire.specs.Bytes.{if}
 use Rattle.sedna.specs.declared.Side.{Side}
 use Rattle.sedna.specs.declared.Found.{Found}
 use Rattle.sedna.specs.declared.Found.the-variants.{Known, Unknown}
 use Rattle.sedna.specs.Allowed.{allowed}
 use Rattle.sedna.specs.Encode.{bodyBytes}
-use Rattle.sedna.specs.Kinds.{shapeNumber, sameShape}
+use Rattle.sedna.specs.Kinds.{shapeNumber}
 use Rattle.sedna.specs.Message.{Body, shapeOf, message}
 use Rattle.sedna.specs.Published.{Published}
-use Rattle.sedna.specs.Table.{InTable, findOf, shaped}
+use Rattle.sedna.specs.Table.{findOf, shaped}
 use Rattle.sedna_exact.proofs.Branches.{both}
 use Rattle.sedna_exact.proofs.Table.{find-listed, listed-find}
 use Rattle.sedna_exact.proofs.Written.{same-shape}

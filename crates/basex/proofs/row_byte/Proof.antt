@@ -2,9 +2,6 @@ use mathlib.Core.Path.{refl, sym}
 use borrow.Author.Needs.{needs}
 use Rattle.basex.proofs.row_byte.Statement.{statement}
 use Rattle.basex.proofs.row_byte.Tie as tie
-use Rattle.basex.proofs.row_byte.Reads as reads
-use Rattle.basex.proofs.row_byte.Lts as lts
-use Rattle.basex.proofs.starts_command.Reads as starts-command-reads
 
 -- src/lib.rt:65:8
 starts-command-requires : tie.Need-starts-command-requires

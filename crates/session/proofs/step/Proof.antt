@@ -1,4 +1,3 @@
-use mathlib.Core.Path.{_∙_, ap}
 use borrow.Author.Needs.{needs}
 use Rattle.session.specs.Machine.{next}
 use Rattle.session.proofs.Steps.{put-together}
