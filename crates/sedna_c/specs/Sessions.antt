@@ -1,10 +1,10 @@
 -- The session for programs in C and Rust: the caller keeps the record in the first two bytes of what it lends.
-use mathlib.Core.Bool.{not}
+use mathlib.Core.Bool.{Bool, not}
 use mathlib.Core.List.{List, _∷_}
 use Prim.Native.Nat.{ℕ}
 use lib.Dec.{eqb, ltb}
 use lib.ListN.{length, getD, drop}
-use Rattle.wire.specs.Bytes.{if}
+use Rattle.wire.specs.Bytes.{if, intAt}
 use Rattle.wire.specs.declared.Refusal.the-variants.{ValueNotAllowed, NoRoom}
 use Rattle.wire.specs.Refusals.{refusalCode}
 use Rattle.sedna.specs.declared.Side.the-variants.{Client, Server}
@@ -14,7 +14,7 @@ use Rattle.sedna_read.specs.Places.{located}
 use Rattle.sedna_read.specs.Reading.{reading, lastly}
 use Rattle.session.specs.declared.Session.{Session}
 use Rattle.session.specs.declared.Stepped.{Stepped}
-use Rattle.session.specs.Machine.{refused}
+use Rattle.session.specs.Machine.{refused, next}
 use Rattle.session.specs.Settled.{afterAnswer}
 use Rattle.session.specs.Step.{freshSession, stepped, closedOf}
 use Rattle.sedna_c.specs.declared.sides.Sender.{Sender}
@@ -74,6 +74,10 @@ senderOf side = if (eqb side 1) (sender.Is Client) (if (eqb side 2) (sender.Is S
 abbrev pub answerOf : Sender → ℕ → List ℕ → Reading
 answerOf sender.Nobody to bytes = read.Refused ValueNotAllowed
 answerOf (sender.Is side) to bytes = located (lastly (not (eqb to refused)) (reading side bytes))
+
+-- the phase that the message in front leads to; reading alone leads to any, and takes every message
+abbrev pub leads : Bool → Session → List ℕ → ℕ
+leads stepping s bytes = if stepping (next (s .phase) (s .version) (intAt bytes 0)) 0
 
 abbrev pub ledTo : ℕ → Reading → ℕ → List ℕ → List ℕ
 ledTo to answer room d = kept answer (afterAnswer (recordIn d) to answer) room d

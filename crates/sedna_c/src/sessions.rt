@@ -3,14 +3,17 @@
 ghost use mathlib.Core.Path.{_≡_};
 ghost use Prim.Native.Nat.{_≤_};
 ghost use lib.ListN.{length};
+ghost use Rattle.wire.specs.Bytes.{if};
+ghost use Rattle.session.specs.Machine.{moveOf};
 ghost use Rattle.sedna_c.specs.Codes.{readCode, fieldsLeft, sideReading};
-ghost use Rattle.sedna_c.specs.Sessions.{recordIn, recordPut, freshCode, freshLeft, senderOf, answerOf, ledTo, stepCode, stepFields, stepLeft, closedCode};
+ghost use Rattle.sedna_c.specs.Sessions.{recordIn, recordPut, freshCode, freshLeft, senderOf, answerOf, leads, ledTo, stepCode, stepFields, stepLeft, closedCode};
 use crate::sides::Sender;
 use crate::sides::sender_of;
 use crate::store_places;
+use sedna::Found;
 use sedna_read::Reading;
 use session::Session;
-use session::machine::next;
+use session::machine::next_found;
 use session::phase::REFUSED;
 use wire::Refusal;
 use wire::refusal_code;
@@ -69,16 +72,33 @@ fn answer_code(answer: Reading, to: u8, session: &mut [u8], fields: &mut [u64]) 
     }
 }
 
-// Reads a message for both exports, and judges 9 where it leads to no phase. The one call of the
-// reader: the compiler then makes one function of the two, and no message is put together in memory.
-fn take(side: u8, bytes: &[u8], to: u8, session: &mut [u8], fields: &mut [u64]) -> u64
+// The phase that a step leads to; for reading alone, any.
+fn lead(stepping: bool, found: Found, session: &[u8], i: u32) -> u8
     requires { ⌜ 2 ≤ length (now session) ⌝ }
-    ensures { λ r. ⌜ (r ≡ readCode (answerOf (senderOf side) to (now (bytes .entry))) (length (now (fields .entry)))) × (now (session .exit) ≡ ledTo to (answerOf (senderOf side) to (now (bytes .entry))) (length (now (fields .entry))) (now (session .entry))) × (now (fields .exit) ≡ fieldsLeft (answerOf (senderOf side) to (now (bytes .entry))) (now (fields .entry))) ⌝ }
+    ensures { λ r. ⌜ r ≡ if stepping (moveOf found (recordIn (now (session .entry)) .phase) (recordIn (now (session .entry)) .version) i) 0 ⌝ }
+{
+    if stepping {
+        let before = record_in(session);
+        next_found(found, before.phase, before.version, i)
+    } else {
+        0
+    }
+}
+
+// Reads a message for both exports, and judges 9 where it leads to no phase. Its instruction is
+// found once. The one call of the reader: the compiler then makes one function of the two, and no
+// message is put together in memory.
+fn take(side: u8, bytes: &[u8], stepping: bool, session: &mut [u8], fields: &mut [u64]) -> u64
+    requires { ⌜ 2 ≤ length (now session) ⌝ }
+    ensures { λ r. ⌜ (r ≡ readCode (answerOf (senderOf side) (leads stepping (recordIn (now (session .entry))) (now (bytes .entry))) (now (bytes .entry))) (length (now (fields .entry)))) × (now (session .exit) ≡ ledTo (leads stepping (recordIn (now (session .entry))) (now (bytes .entry))) (answerOf (senderOf side) (leads stepping (recordIn (now (session .entry))) (now (bytes .entry))) (now (bytes .entry))) (length (now (fields .entry))) (now (session .entry))) × (now (fields .exit) ≡ fieldsLeft (answerOf (senderOf side) (leads stepping (recordIn (now (session .entry))) (now (bytes .entry))) (now (bytes .entry))) (now (fields .entry))) ⌝ }
 {
     match sender_of(side) {
         Sender::Nobody => refusal_code(Refusal::ValueNotAllowed),
         Sender::Is(s) => {
-            let answer = sedna_read::read_if(s, bytes, to != REFUSED);
+            let i = wire::get_int(bytes, 0);
+            let found = sedna::find(i);
+            let to = lead(stepping, found, session, i);
+            let answer = sedna_read::read_found(found, s, bytes, to != REFUSED);
             answer_code(answer, to, session, fields)
         }
     }
@@ -91,7 +111,7 @@ pub extern "C" fn kdr_read(side: u8, bytes: &[u8], fields: &mut [u64]) -> u64
     ensures { λ r. ⌜ (r ≡ readCode (sideReading side (now (bytes .entry))) (length (now (fields .entry)))) × (now (fields .exit) ≡ fieldsLeft (sideReading side (now (bytes .entry))) (now (fields .entry))) ⌝ }
 {
     let mut no_session = [0u8; 2];
-    take(side, bytes, 0, &mut no_session, fields)
+    take(side, bytes, false, &mut no_session, fields)
 }
 
 // The step on the record in the first two bytes, with the message at the front of bytes, which side
@@ -103,9 +123,7 @@ pub extern "C" fn kdr_step(session: &mut [u8], side: u8, bytes: &[u8], fields: &
     if session.len() < 2 {
         return refusal_code(Refusal::NoRoom);
     }
-    let before = record_in(session);
-    let to = next(before.phase, before.version, wire::get_int(bytes, 0));
-    take(side, bytes, to, session, fields)
+    take(side, bytes, true, session, fields)
 }
 
 // Whether the conversation is over: 1 or 0.

@@ -6,7 +6,7 @@ ghost use lib.ListN.{length, take, drop};
 ghost use Rattle.sedna.specs.declared.Shape.the-variants.{Session as session, Text as text, Statement as statement, Coded as coded, Options as options, Item as item};
 ghost use Rattle.sedna_read.specs.Fields.{stringField};
 ghost use Rattle.sedna_read.specs.Places.{window, stringPlace, Within, lastField, onString, ended, bodyAt, namesField, urlPart, headAt, Bounded, located, pairPlace, PairWithin, optionAt};
-ghost use Rattle.sedna_read.specs.Reading.{heading, reading, lastly, pairField};
+ghost use Rattle.sedna_read.specs.Reading.{heading, headingBy, reading, readingBy, lastly, pairField};
 use sedna::Found;
 use sedna::Shape;
 use sedna::Side;
@@ -329,14 +329,14 @@ fn body_at(shape: Shape, s: &[u8], at: usize, end: usize) -> Parsed
     }
 }
 
-// Judges the eight head bytes, apart from the body.
-pub fn judge_head(side: Side, bytes: &[u8]) -> Head
-    ensures { λ r. ⌜ (r ≡ headAt (heading side (now (bytes .entry)))) × Bounded (length (now (bytes .entry))) r ⌝ }
+// Judges the eight head bytes, apart from the body, by what was found of the instruction.
+pub fn judge_found(found: Found, side: Side, bytes: &[u8]) -> Head
+    ensures { λ r. ⌜ (r ≡ headAt (headingBy found side (now (bytes .entry)))) × Bounded (length (now (bytes .entry))) r ⌝ }
 {
     if bytes.len() < 8 {
         return Head::Refused(Refusal::MoreBytes);
     }
-    match sedna::find(wire::get_int(bytes, 0)) {
+    match found {
         Found::Unknown => Head::Refused(Refusal::UnknownInstruction),
         Found::Known(sender, shape) => {
             if sedna::side_number(sender) == sedna::side_number(side) {
@@ -352,12 +352,20 @@ pub fn judge_head(side: Side, bytes: &[u8]) -> Head
     }
 }
 
-// Reads the message at the front of `bytes`, which `side` sent. Behind every refusal of reading, 9
-// for a message that is not to be taken: judged here, a step copies no message.
-pub fn read_if(side: Side, bytes: &[u8], taken: bool) -> Reading
-    ensures { λ r. ⌜ r ≡ located (lastly taken (reading side (now (bytes .entry)))) ⌝ }
+// Judges the eight head bytes, apart from the body.
+pub fn judge_head(side: Side, bytes: &[u8]) -> Head
+    ensures { λ r. ⌜ (r ≡ headAt (heading side (now (bytes .entry)))) × Bounded (length (now (bytes .entry))) r ⌝ }
 {
-    match judge_head(side, bytes) {
+    judge_found(sedna::find(wire::get_int(bytes, 0)), side, bytes)
+}
+
+// Reads the message at the front of `bytes`, which `side` sent, by what was found of its
+// instruction: a step finds once, for its machine and for the reading. Behind every refusal of
+// reading, 9 for a message that is not to be taken: judged here, a step copies no message.
+pub fn read_found(found: Found, side: Side, bytes: &[u8], taken: bool) -> Reading
+    ensures { λ r. ⌜ r ≡ located (lastly taken (readingBy found side (now (bytes .entry)))) ⌝ }
+{
+    match judge_found(found, side, bytes) {
         Head::Refused(r) => Reading::Refused(r),
         Head::Body(shape, n) => {
             let end = 8 + n;
@@ -381,6 +389,13 @@ pub fn read_if(side: Side, bytes: &[u8], taken: bool) -> Reading
             }
         }
     }
+}
+
+// Reads the message at the front of `bytes`, which `side` sent, with 9 last.
+pub fn read_if(side: Side, bytes: &[u8], taken: bool) -> Reading
+    ensures { λ r. ⌜ r ≡ located (lastly taken (reading side (now (bytes .entry)))) ⌝ }
+{
+    read_found(sedna::find(wire::get_int(bytes, 0)), side, bytes, taken)
 }
 
 // Reads the message at the front of `bytes`, which `side` sent.
