@@ -1,7 +1,6 @@
 // A text cut, written, read back and joined.
 use crate::join::opened;
 use crate::text::MOST;
-use crate::text::first;
 use crate::text::number;
 use crate::text::refused;
 use crate::text::say_answer;
@@ -12,6 +11,7 @@ use assembly::Assembly;
 use assembly::Open;
 use fragments::Parts;
 use lines::cut::behind;
+use lines::cut::first;
 use lines::cut::front;
 use lines::cut::same;
 use lines::print::say;

@@ -1,10 +1,10 @@
 // Numbers that words spell, and printing what is answered.
 use assembly::Answer;
 use assembly::Assembly;
+use lines::cut::first;
 use lines::cut::same;
 use lines::print::decimal;
 use lines::print::say;
-use wire::Place;
 use wire::Refusal;
 
 // The greatest length and room, and the greatest number of a line.
@@ -25,11 +25,6 @@ pub fn say_refusal(r: Refusal) {
 pub fn refused(a: Assembly, r: Refusal) -> Assembly {
     say_refusal(r);
     a
-}
-
-// The first `len` bytes.
-pub fn first(bytes: &[u8], len: usize) -> &[u8] {
-    wire::part(bytes, Place { start: 0, len })
 }
 
 // What is handed over of the buffer, and whether the text starts with it.
