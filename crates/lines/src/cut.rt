@@ -1,16 +1,22 @@
 // Parts of text and of bytes, and comparing them.
+ghost use mathlib.Core.Path.{_≡_};
 ghost use Prim.Native.Nat.{_≤_};
-ghost use lib.ListN.{length};
+ghost use lib.ListN.{length, take, drop};
+ghost use Rattle.lines.specs.Cuts.{beforeFirst, behindFirst, withoutSpace, sameBytes, wordsOf, aheadOf, behindWords};
 use wire::Place;
 use wire::part;
 
 // The first n bytes, as far as there are so many.
-pub fn first(s: &[u8], n: usize) -> &[u8] {
+pub fn first(s: &[u8], n: usize) -> &[u8]
+    ensures { λ r. ⌜ now r ≡ take n (now (s .entry)) ⌝ }
+{
     part(s, Place { start: 0, len: n })
 }
 
 // All behind the first n bytes.
-pub fn rest(s: &[u8], n: usize) -> &[u8] {
+pub fn rest(s: &[u8], n: usize) -> &[u8]
+    ensures { λ r. ⌜ now r ≡ drop n (now (s .entry)) ⌝ }
+{
     part(
         s,
         Place {
@@ -22,7 +28,7 @@ pub fn rest(s: &[u8], n: usize) -> &[u8] {
 
 // The index of the first b, or the length where there is none.
 fn find(s: &[u8], b: u8) -> usize
-    ensures { λ r. ⌜ r ≤ length (now (s .entry)) ⌝ }
+    ensures { λ r. ⌜ (r ≡ length (beforeFirst b (now (s .entry)))) × (r ≤ length (now (s .entry))) ⌝ }
 {
     let mut i = 0;
     while i < s.len() {
@@ -36,14 +42,16 @@ fn find(s: &[u8], b: u8) -> usize
 
 // All before the first b. A loop over such parts ends because none is longer than what it is of.
 pub fn front(s: &[u8], b: u8) -> &[u8]
-    ensures { λ r. ⌜ length (now r) ≤ length (now (s .entry)) ⌝ }
+    ensures { λ r. ⌜ (now r ≡ beforeFirst b (now (s .entry))) × (length (now r) ≤ length (now (s .entry))) ⌝ }
 {
     let n = find(s, b);
     &s[0..n]
 }
 
 // All behind the first b; nothing where there is none.
-pub fn behind(s: &[u8], b: u8) -> &[u8] {
+pub fn behind(s: &[u8], b: u8) -> &[u8]
+    ensures { λ r. ⌜ now r ≡ behindFirst b (now (s .entry)) ⌝ }
+{
     let n = find(s, b);
     if n < s.len() {
         let from = n + 1;
@@ -53,7 +61,9 @@ pub fn behind(s: &[u8], b: u8) -> &[u8] {
 }
 
 // Without a space in front.
-pub fn trimmed(s: &[u8]) -> &[u8] {
+pub fn trimmed(s: &[u8]) -> &[u8]
+    ensures { λ r. ⌜ now r ≡ withoutSpace (now (s .entry)) ⌝ }
+{
     if 0 < s.len() {
         if s[0] == b' ' {
             return &s[1..];
@@ -62,7 +72,9 @@ pub fn trimmed(s: &[u8]) -> &[u8] {
     s
 }
 
-pub fn same(a: &[u8], b: &[u8]) -> bool {
+pub fn same(a: &[u8], b: &[u8]) -> bool
+    ensures { λ r. ⌜ r ≡ sameBytes (now (a .entry)) (now (b .entry)) ⌝ }
+{
     if a.len() != b.len() {
         return false;
     }
@@ -77,7 +89,9 @@ pub fn same(a: &[u8], b: &[u8]) -> bool {
 }
 
 // Which of some words a word is, counted from 0; their count where it is none of them.
-pub fn position(words: &[u8], word: &[u8]) -> usize {
+pub fn position(words: &[u8], word: &[u8]) -> usize
+    ensures { λ r. ⌜ r ≡ aheadOf (now (word .entry)) (wordsOf (now (words .entry))) ⌝ }
+{
     let mut k = 0;
     let mut at = 0;
     while at < words.len() {
@@ -92,7 +106,9 @@ pub fn position(words: &[u8], word: &[u8]) -> usize {
 }
 
 // All behind the first n words, of which a line has two at most.
-pub fn skip(words: &[u8], n: usize) -> &[u8] {
+pub fn skip(words: &[u8], n: usize) -> &[u8]
+    ensures { λ r. ⌜ now r ≡ behindWords n (now (words .entry)) ⌝ }
+{
     if n == 0 {
         return words;
     }

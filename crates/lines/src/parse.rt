@@ -1,5 +1,7 @@
 // Numbers and bytes from text.
+ghost use mathlib.Core.Path.{_≡_};
 ghost use Prim.Native.Nat.{_≤_};
+ghost use Rattle.lines.specs.Numbers.{digitOf, decimalOf};
 use crate::cut::behind;
 use crate::cut::front;
 
@@ -19,7 +21,7 @@ pub enum Spelt {
 
 // A digit's value; 16 for any other byte.
 fn digit(b: u8) -> u8
-    ensures { λ r. ⌜ r ≤ 16 ⌝ }
+    ensures { λ r. ⌜ (r ≡ digitOf b) × (r ≤ 16) ⌝ }
 {
     match b {
         b'0'..=b'9' => b - b'0',
@@ -30,7 +32,9 @@ fn digit(b: u8) -> u8
 }
 
 // A decimal number that an int can hold.
-pub fn decimal(text: &[u8]) -> Number {
+pub fn decimal(text: &[u8]) -> Number
+    ensures { λ r. ⌜ r ≡ decimalOf (now (text .entry)) ⌝ }
+{
     if text.len() == 0 {
         return Number::Not;
     }

@@ -1,0 +1,4 @@
+pub mod Digits
+pub mod Parts
+pub mod Sames
+pub mod Words
