@@ -27,25 +27,26 @@ words-cons x (y ∷ s) = by (eqb x space) (words-cons y s)
 
 module _ (s : List ℕ) (at : ℕ) where
   -- the word at `at`, and the words behind it
-  words-on : at < length s → wordsOf (drop at s) ≡ beforeFirst space (drop at s) ∷ wordsOf (drop (at + suc (length (beforeFirst space (drop at s)))) s)
-  words-on h =
-      rw (← drop-drop (suc (length (beforeFirst space (drop at s)))) at s, drop-before space (drop at s)) (rw (drop-here s at h) (words-cons _ _))
+  pub words-on : (one : List ℕ) → at < length s → one ≡ beforeFirst space (take (length s - at) (drop at s)) → wordsOf (drop at s) ≡ one ∷ wordsOf (drop (at + (length one + 1)) s)
+  words-on one h e =
+      let first : beforeFirst space (drop at s) ≡ one = ap (beforeFirst space) (sym (to-end s at)) ∙ sym e in
+      let more : length one + 1 ≡ suc (length one) = omega arith in
+      rw (← drop-drop (length one + 1) at s, more, ← first, drop-before space (drop at s)) (rw (drop-here s at h) (words-cons _ _))
 
-  -- `one` is that word, and w is not the same; or it is
+  pub words-end : length s ≤ at → wordsOf (drop at s) ≡ []
+  unfolding wordsOf
+  words-end h = rw (drop-of-length-le s h)
+
+  -- `one` is the word at `at`
   module _ (w one : List ℕ) (h : at < length s) (e : one ≡ beforeFirst space (take (length s - at) (drop at s))) where
-    first-word : beforeFirst space (drop at s) ≡ one
-    first-word = ap (beforeFirst space) (sym (to-end s at)) ∙ sym e
-
     pub ahead-here : sameBytes one w ≡ true → aheadOf w (wordsOf (drop at s)) ≡ 0
     unfolding aheadOf
-    ahead-here q = rw (words-on h, first-word) (simp q)
+    ahead-here q = rw (words-on one h e) (simp q)
 
     pub ahead-on : sameBytes one w ≡ false → aheadOf w (wordsOf (drop at s)) ≡ suc (aheadOf w (wordsOf (drop (at + (length one + 1)) s)))
     unfolding aheadOf
-    ahead-on q =
-        let f : length one + 1 ≡ suc (length one) = omega arith in
-        rw (words-on h, first-word, f) (simp q)
+    ahead-on q = rw (words-on one h e) (simp q)
 
   pub ahead-end : (w : List ℕ) → length s ≤ at → aheadOf w (wordsOf (drop at s)) ≡ 0
-  unfolding wordsOf aheadOf
-  ahead-end w h = rw (drop-of-length-le s h)
+  unfolding aheadOf
+  ahead-end w h = rw (words-end h)

@@ -2,6 +2,7 @@
 ghost use mathlib.Core.Path.{_≡_};
 ghost use Prim.Native.Nat.{_≤_};
 ghost use Rattle.lines.specs.Numbers.{digitOf, decimalOf};
+ghost use Rattle.lines.specs.Spelling.{pairsAt, lastAt, wordAt, textAt, Spells};
 use crate::cut::behind;
 use crate::cut::front;
 
@@ -55,7 +56,9 @@ pub fn decimal(text: &[u8]) -> Number
 }
 
 // Puts the bytes that pairs of digits spell into out, from n on.
-fn pairs(digits: &[u8], out: &mut [u8], n: usize) -> Spelt {
+fn pairs(digits: &[u8], out: &mut [u8], n: usize) -> Spelt
+    ensures { λ r. ⌜ Spells (now (out .entry)) n (pairsAt (now (out .entry)) n (now (digits .entry))) r (now (out .exit)) ⌝ }
+{
     let count = digits.len() / 2;
     if digits.len() % 2 != 0 {
         return Spelt::Not;
@@ -83,7 +86,9 @@ fn pairs(digits: &[u8], out: &mut [u8], n: usize) -> Spelt {
 }
 
 // Repeats the byte before n, so that it stands there so many times in all.
-fn repeat(out: &mut [u8], n: usize, times: usize) -> Spelt {
+fn repeat(out: &mut [u8], n: usize, times: usize) -> Spelt
+    ensures { λ r. ⌜ Spells (now (out .entry)) n (lastAt (now (out .entry)) n times) r (now (out .exit)) ⌝ }
+{
     if n == 0 {
         return Spelt::Not;
     }
@@ -106,7 +111,9 @@ fn repeat(out: &mut [u8], n: usize, times: usize) -> Spelt {
 }
 
 // Pairs of digits, and perhaps `*` with how many times the last byte stands in all.
-fn word(text: &[u8], out: &mut [u8], n: usize) -> Spelt {
+fn word(text: &[u8], out: &mut [u8], n: usize) -> Spelt
+    ensures { λ r. ⌜ Spells (now (out .entry)) n (wordAt (now (out .entry)) n (now (text .entry))) r (now (out .exit)) ⌝ }
+{
     let digits = front(text, b'*');
     match pairs(digits, out, n) {
         Spelt::Not => Spelt::Not,
@@ -122,8 +129,13 @@ fn word(text: &[u8], out: &mut [u8], n: usize) -> Spelt {
     }
 }
 
-// Puts the bytes that words of digits spell into out, from `from` on.
-pub fn bytes(text: &[u8], out: &mut [u8], from: usize) -> Spelt {
+// Puts the bytes that words of digits spell into out, from `from` on, where out has such a place.
+pub fn bytes(text: &[u8], out: &mut [u8], from: usize) -> Spelt
+    ensures { λ r. ⌜ Spells (now (out .entry)) from (textAt (now (out .entry)) from (now (text .entry))) r (now (out .exit)) ⌝ }
+{
+    if out.len() < from {
+        return Spelt::Not;
+    }
     let mut n = from;
     let mut at = 0;
     while at < text.len() {
