@@ -15,20 +15,19 @@ use lib.Dec.{ltb}
 use lib.ListN.{length, drop, getElem?}
 use Rattle.wire.specs.Bytes.{IsBytes, if, placed}
 use Rattle.wire.specs.Every.{Every}
-use Rattle.wire.specs.Fields.{Got}
 use Rattle.wire.specs.declared.Refusal.{Refusal}
-use Rattle.wire.specs.declared.Refusal.the-variants.{MoreBytes, FieldCut, BytesLeftOver, ValueNotAllowed, NoRoom, NoEncoding, NoSuchPart}
+use Rattle.wire.specs.declared.Refusal.the-variants.{MoreBytes, ValueNotAllowed, NoRoom, NoEncoding, NoSuchPart}
 use Rattle.wire.specs.Refusals.{numberOf}
-use Rattle.sedna.specs.declared.Shape.{Shape}
 use Rattle.sedna.specs.declared.Side.{Side}
-use Rattle.sedna.specs.Encode.{encode}
-use Rattle.sedna.specs.Message.{Message}
+use Rattle.sedna.specs.Encode.{bodyBytes, encode}
+use Rattle.sedna.specs.Message.{Body, Message}
 use Rattle.sedna.specs.Published.{Published}
 use Rattle.sedna_read.specs.declared.Reading.the-variants as read
-use Rattle.sedna_read.specs.Reading.{Answer, bodyField, reading}
+use Rattle.sedna_read.specs.Reading.{Answer, reading}
 use Rattle.sedna_write.specs.declared.Written.the-variants.{Bytes, Refused}
 use Rattle.sedna_write.specs.Writing.{written, left}
-use Rattle.sedna_exact.specs.Due.{CutShort, LeftOver, Due}
+use Rattle.sedna_exact.specs.Due.{Due}
+use Rattle.sedna_exact.specs.Pieces.{piecesBytes, piecesOf}
 use Rattle.sedna_exact.specs.Unwritten.{Unwritten}
 use Rattle.session.specs.declared.Session.{Session}
 use Rattle.session.specs.Step.{stepped}
@@ -61,14 +60,12 @@ OneOf (m ∷ ms) n = (n ≡ m) ⊎ OneOf ms n
 
 -- Sedna's messages and the session. The bytes of a slice are bytes: `IsBytes s` is no condition on a caller
 pub record Sedna : Type 0 where
-  -- "at the moment it lists and never otherwise": reading refuses with r exactly when `Due` says so ..
-  pub reading-refused : (side : Side) (s : List ℕ) (r : Refusal) → (reading side s ≡ Answer.refused r) ↔ Due side s r
-  -- .. in a body with 5 exactly where it ends inside a field, with 7 exactly where bytes are left over, and else with 6 or 8 ..
-  pub body-cut : (of : Shape) (b : List ℕ) → IsBytes b → (bodyField of b ≡ Got.refused FieldCut) ↔ CutShort of b
-  pub body-left-over : (of : Shape) (b : List ℕ) → IsBytes b → (bodyField of b ≡ Got.refused BytesLeftOver) ↔ LeftOver of b
-  pub body-refused : (of : Shape) (b : List ℕ) (r : Refusal) → bodyField of b ≡ Got.refused r → OneOf (5 ∷ 6 ∷ 7 ∷ 8 ∷ []) (numberOf r)
+  -- "at the moment it lists and never otherwise": reading refuses with r exactly when `Due` says so, by the table, the published bodies and the bytes ..
+  pub reading-refused : (side : Side) (s : List ℕ) → IsBytes s → (r : Refusal) → (reading side s ≡ Answer.refused r) ↔ Due side s r
+  -- .. where the fields of a body, of which one may be wrong, are those of its encoding ..
+  pub fields-encoded : (b : Body) → piecesBytes (piecesOf b) ≡ bodyBytes b
   -- .. "as soon as the byte is there": a refusal other than 1 stands, whatever bytes follow
-  pub refusal-stands : (side : Side) (s t : List ℕ) (r : Refusal) → ¬ (r ≡ MoreBytes) → reading side s ≡ Answer.refused r → reading side (s ++ t) ≡ Answer.refused r
+  pub refusal-stands : (side : Side) (s t : List ℕ) → IsBytes (s ++ t) → (r : Refusal) → ¬ (r ≡ MoreBytes) → reading side s ≡ Answer.refused r → reading side (s ++ t) ≡ Answer.refused r
   -- writing refuses with r exactly when `Unwritten` says so, and then leaves every byte of the lent output
   pub writing-refused : (room : ℕ) (m : Message) (r : Refusal) → (written room m ≡ Refused r) ↔ Unwritten room m r
   pub writing-leaves : (out : List ℕ) (m : Message) (r : Refusal) → written (length out) m ≡ Refused r → left out m (written (length out) m) ≡ out

@@ -37,7 +37,7 @@ read-body : (of : Shape) (s : List ℕ) → IsBytes s → (b : Body) (rest : Lis
 read-body of s h b rest e = let r = body-back of s b rest h e in record { body = b; shape = r .shape; values = r .values; bytes = r .split ∙ append-nil (bodyBytes b) }
 
 -- what a body may be refused with
-abbrev Among : Refusal → Type 0
+abbrev pub Among : Refusal → Type 0
 Among r = (r ≡ FieldCut) ⊎ (r ≡ BytesLeftOver) ⊎ ((r ≡ StringFormat) ⊎ (r ≡ ValueNotAllowed))
 
 module _ (of : Shape) (s : List ℕ) (h : IsBytes s) where

@@ -7,7 +7,7 @@ use Prim.Native.Nat.{ℕ, _+_, _≤_}
 use lib.Dec.{ltb}
 use lib.ListN.{length, take, drop}
 use borrow.Author.Tests.{lt-ltb, le-ltb, ltb-true, ltb-false}
-use Rattle.wire.specs.Bytes.{intAt}
+use Rattle.wire.specs.Bytes.{IsBytes, intAt}
 use Rattle.wire.specs.Fields.{Got}
 use Rattle.wire.specs.declared.Refusal.{Refusal}
 use Rattle.wire.specs.declared.Refusal.the-variants.{MoreBytes, UnknownInstruction, OtherSide, BodyTooLong}
@@ -22,7 +22,9 @@ use Rattle.sedna.specs.Table.{InTable, findOf}
 use Rattle.sedna_read.specs.Reading.{bodyField, Heading, headOf, heading, Answer, answered, afterHead, reading}
 use Rattle.sedna_exact.specs.Due.{Head, Due}
 use Rattle.sedna_exact.proofs.Branches.{apart, either}
+use Rattle.sedna_exact.proofs.Bytes.{bytes-part}
 use Rattle.sedna_exact.proofs.Heads.{same-back, same-forth, head-forth, head-back}
+use Rattle.sedna_exact.proofs.InBody.{in-body-exact}
 use Rattle.sedna_exact.proofs.Table.{find-listed, listed-find}
 
 -- the table lacks an instruction exactly where none is found
@@ -46,7 +48,7 @@ other-side a b differ = by (sameSide a b) refl
 not-same : (a b : Side) → sameSide a b ≡ false → ¬ (a ≡ b)
 not-same a b e p = apart (let z : true ≡ false = sym (same-forth a) ∙ ap (sameSide a) p ∙ e in cc)
 
-module _ (side : Side) (s : List ℕ) (r : Refusal) where
+module _ (side : Side) (s : List ℕ) (r : Refusal) (h : IsBytes s) where
   is-due : {q : Refusal} → Answer.refused q ≡ Answer.refused r → Due side s q → Due side s r
   is-due {q} e = let z : q ≡ r = cc in subst (Due side s) z
 
@@ -74,7 +76,7 @@ module _ (side : Side) (s : List ℕ) (r : Refusal) where
   due-back e = by (heading side s) refl e
     where
       in-body : (of : Shape) (n : ℕ) → Head side s of n → 8 + n ≤ length s → (g : Got Body) → bodyField of (take n (drop 8 s)) ≡ g → answered (intAt s 0) (8 + n) g ≡ Answer.refused r → Due side s r
-      in-body of n head fits (Got.refused q) p e = is-due e (Due.in-body q of n head fits p)
+      in-body of n head fits (Got.refused q) p e = is-due e (Due.in-body q of n head fits (in-body-exact of (take n (drop 8 s)) (bytes-part s 8 n h) q .0 p))
       in-body of n head fits (Got.got b rest) p e = apart (cc)
 
       by : (g : Heading) → heading side s ≡ g → afterHead s g ≡ Answer.refused r → Due side s r
@@ -85,15 +87,15 @@ module _ (side : Side) (s : List ℕ) (r : Refusal) where
           (λ cut e₁. is-due e₁ (Due.no-body of n head (ltb-true (length s) (8 + n) cut)))
           (λ fits e₁. in-body of n head (ltb-false (length s) (8 + n) fits) (bodyField of (take n (drop 8 s))) refl e₁)
 
-due-forth : (side : Side) (s : List ℕ) {r : Refusal} → Due side s r → reading side s ≡ Answer.refused r
+due-forth : (side : Side) (s : List ℕ) → IsBytes s → {r : Refusal} → Due side s r → reading side s ≡ Answer.refused r
 unfolding reading heading
-due-forth side s (Due.no-head h) = rw (lt-ltb (length s) 8 h)
-due-forth side s (Due.unknown long none) = rw (le-ltb (length s) 8 long, lacks (intAt s 0) none)
-due-forth side s (Due.other-side long sender of listed differ) = rw (le-ltb (length s) 8 long, find-listed (intAt s 0, sender, of) listed, other-side sender side differ)
-due-forth side s (Due.too-long long of listed more) = rw (le-ltb (length s) 8 long, find-listed (intAt s 0, side, of) listed, same-forth side, lt-ltb 10240 (intAt s 4) more)
-due-forth side s (Due.no-body of n head cut) = ap (afterHead s) (head-forth side s of n head) ∙ rw (lt-ltb (length s) (8 + n) cut)
-due-forth side s (Due.in-body r of n head fits e) = ap (afterHead s) (head-forth side s of n head) ∙ rw (le-ltb (length s) (8 + n) fits, e)
+due-forth side s h (Due.no-head l) = rw (lt-ltb (length s) 8 l)
+due-forth side s h (Due.unknown long none) = rw (le-ltb (length s) 8 long, lacks (intAt s 0) none)
+due-forth side s h (Due.other-side long sender of listed differ) = rw (le-ltb (length s) 8 long, find-listed (intAt s 0, sender, of) listed, other-side sender side differ)
+due-forth side s h (Due.too-long long of listed more) = rw (le-ltb (length s) 8 long, find-listed (intAt s 0, side, of) listed, same-forth side, lt-ltb 10240 (intAt s 4) more)
+due-forth side s h (Due.no-body of n head cut) = ap (afterHead s) (head-forth side s of n head) ∙ rw (lt-ltb (length s) (8 + n) cut)
+due-forth side s h (Due.in-body r of n head fits e) = ap (afterHead s) (head-forth side s of n head) ∙ rw (le-ltb (length s) (8 + n) fits, in-body-exact of (take n (drop 8 s)) (bytes-part s 8 n h) r .1 e)
 
 -- demand 1, reading: a refusal is given exactly when it is due
-pub refused-exact : (side : Side) (s : List ℕ) (r : Refusal) → (reading side s ≡ Answer.refused r) ↔ Due side s r
-refused-exact side s r = (due-back side s r, due-forth side s)
+pub refused-exact : (side : Side) (s : List ℕ) → IsBytes s → (r : Refusal) → (reading side s ≡ Answer.refused r) ↔ Due side s r
+refused-exact side s h r = (due-back side s r h, due-forth side s h)

@@ -8,6 +8,7 @@ pub mod Due
 pub mod Exact
 pub mod Fields
 pub mod Heads
+pub mod InBody
 pub mod LeftOver
 pub mod Lists
 pub mod Meaning
@@ -15,6 +16,7 @@ pub mod Options
 pub mod Pairs
 pub mod Parts
 pub mod Persist
+pub mod Pieces
 pub mod Refusals
 pub mod Stands
 pub mod Steps
@@ -22,3 +24,5 @@ pub mod Table
 pub mod Unwritten
 pub mod Urls
 pub mod Written
+pub mod WrongFields
+pub mod WrongStops

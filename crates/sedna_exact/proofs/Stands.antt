@@ -1,18 +1,19 @@
 -- A refusal other than 1 stands, whatever bytes follow: "Bytes after the message are not touched."
 use mathlib.Core.List.{List, _++_}
-use mathlib.Core.Path.{_≡_, refl, sym, ap, _∙_}
+use mathlib.Core.Path.{_≡_, refl, sym, subst, _∙_}
 use Prim.Native.Nat.{ℕ, _+_, _≤_}
 use native.Mathlib.Omega.{arith}
 use lib.ListN.{length, take, drop, length-append, length-drop, List·getD-append}
 use lib.Seq.{take-append-le, drop-append-le}
-use Rattle.wire.specs.Bytes.{intAt}
+use Rattle.wire.specs.Bytes.{IsBytes, intAt}
 use Rattle.wire.specs.declared.Refusal.{Refusal}
 use Rattle.wire.specs.declared.Refusal.the-variants.{MoreBytes}
 use Rattle.wire.proofs.Ints.{intAt-there}
 use Rattle.sedna.specs.declared.Shape.{Shape}
 use Rattle.sedna.specs.declared.Side.{Side}
-use Rattle.sedna_read.specs.Reading.{Answer, bodyField, reading}
-use Rattle.sedna_exact.specs.Due.{Head, Due}
+use Rattle.sedna_read.specs.Reading.{Answer, reading}
+use Rattle.sedna_exact.specs.Due.{InBody, Head, Due}
+use Rattle.sedna_exact.proofs.Bytes.{bytes-front}
 use Rattle.sedna_exact.proofs.Due.{refused-exact}
 
 module _ (side : Side) (s t : List ℕ) where
@@ -38,7 +39,7 @@ module _ (side : Side) (s t : List ℕ) where
   due-stands c (Due.in-body r of n h l e) =
       let long : 8 ≤ length s = h .long in
       let body : take n (drop 8 (s ++ t)) ≡ take n (drop 8 s) = rw (drop-append-le 8 s t long, take-append-le n (drop 8 s) t (omega (arith, length-drop 8 s))) in
-      Due.in-body r of n (head-stands h) (omega (arith, length-append s t)) (ap (bodyField of) body ∙ e)
+      Due.in-body r of n (head-stands h) (omega (arith, length-append s t)) (subst (λ (b : List ℕ). InBody of b r) (sym body) e)
 
-pub refusal-stands : (side : Side) (s t : List ℕ) (r : Refusal) → ¬ (r ≡ MoreBytes) → reading side s ≡ Answer.refused r → reading side (s ++ t) ≡ Answer.refused r
-refusal-stands side s t r c e = refused-exact side (s ++ t) r .1 (due-stands side s t c (refused-exact side s r .0 e))
+pub refusal-stands : (side : Side) (s t : List ℕ) → IsBytes (s ++ t) → (r : Refusal) → ¬ (r ≡ MoreBytes) → reading side s ≡ Answer.refused r → reading side (s ++ t) ≡ Answer.refused r
+refusal-stands side s t h r c e = refused-exact side (s ++ t) h r .1 (due-stands side s t c (refused-exact side s (bytes-front s t h) r .0 e))
