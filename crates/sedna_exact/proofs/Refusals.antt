@@ -65,7 +65,7 @@ module _ (P : Refusal → Type 0) (cut : P FieldCut) (format : P StringFormat) (
   unfolding bytesField
   bytes-refuse n s = of-both (GotIn P) (ltb (length s) n) _ _ cut tt
 
-  pub string-refuses : Refuses stringField
+  string-refuses : Refuses stringField
   unfolding stringField
   string-refuses = after byteField _ byte-refuses λ x. tested (eqb x 0) StringFormat _ format (after intField _ int-refuses bytes-refuse)
 
