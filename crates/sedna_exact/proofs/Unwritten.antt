@@ -17,14 +17,14 @@ use Rattle.sedna.specs.Allowed.{allowed}
 use Rattle.sedna.specs.Encode.{bodyBytes}
 use Rattle.sedna.specs.Kinds.{shapeNumber, sameShape}
 use Rattle.sedna.specs.Message.{Message, shapeOf}
-use Rattle.sedna.specs.Table.{InTable, findOf}
+use Rattle.sedna.specs.Table.{InTable, findOf, fitOf}
 use Rattle.sedna_write.specs.declared.Written.the-variants.{Refused}
 use Rattle.sedna_write.specs.Writing.{judgedAs, judgement, written}
 use Rattle.sedna_exact.specs.Unwritten.{Unwritten}
 use Rattle.sedna_exact.proofs.Branches.{apart, either}
 use Rattle.sedna_exact.proofs.Due.{lacking, lacks}
 use Rattle.sedna_exact.proofs.Table.{find-listed, listed-find}
-use Rattle.sedna_exact.proofs.Written.{same-shape, encode-length}
+use Rattle.sedna_exact.proofs.Written.{same-shape, encode-length, fitted}
 
 shape-itself : (a : Shape) → sameShape a a ≡ true
 shape-itself a = eq-eqb (shapeNumber a) _ refl
@@ -40,11 +40,11 @@ module _ (room : ℕ) (m : Message) where
       so : {q : Refusal} → Refused q ≡ Refused r → Unwritten room m q → Unwritten room m r
       so {q} e = let z : q ≡ r = cc in subst (Unwritten room m) z
 
-      by : (f : Found) → findOf (m .instruction) ≡ f → judgedAs f (shapeOf (m .body)) (allowed (m .body)) k room ≡ Refused r → Unwritten room m r
+      by : (f : Found) → findOf (m .instruction) ≡ f → judgedAs (fitOf f (shapeOf (m .body))) (allowed (m .body)) k room ≡ Refused r → Unwritten room m r
       by Unknown found e = so e (Unwritten.unknown (lacking (m .instruction) found))
       by (Known sender own) found e =
           let listed : InTable (m .instruction, sender, own) = listed-find (m .instruction) sender own found in
-          either (sameShape own (shapeOf (m .body))) _ _ e
+          fitted (sameShape own (shapeOf (m .body))) (allowed (m .body)) k room e
           (λ same e₁.
           let there : InTable (m .instruction, sender, shapeOf (m .body)) = rw (same-shape own (shapeOf (m .body)) same) at listed in
           either (allowed (m .body)) _ _ e₁
@@ -58,10 +58,10 @@ module _ (room : ℕ) (m : Message) where
           (λ bad e₂. so e₂ (Unwritten.value (m .instruction, sender, own) listed refl λ both. apart (let z : true ≡ false = sym (both .1) ∙ bad in cc))))
           (λ other e₁. so e₁ (Unwritten.value (m .instruction, sender, own) listed refl λ both. apart (let z : true ≡ false = sym (shape-itself own) ∙ ap (sameShape own) (both .0) ∙ other in cc)))
 
-  not-so : (own : Shape) → ¬ ((own ≡ shapeOf (m .body)) × (allowed (m .body) ≡ true)) → (f : Found) (sender : Side) → f ≡ Known sender own → judgedAs f (shapeOf (m .body)) (allowed (m .body)) k room ≡ Refused ValueNotAllowed
+  not-so : (own : Shape) → ¬ ((own ≡ shapeOf (m .body)) × (allowed (m .body) ≡ true)) → (f : Found) (sender : Side) → f ≡ Known sender own → judgedAs (fitOf f (shapeOf (m .body))) (allowed (m .body)) k room ≡ Refused ValueNotAllowed
   not-so own unfit f sender found = by (sameShape own (shapeOf (m .body))) refl (allowed (m .body)) refl
     where
-      by : (t : Bool) → sameShape own (shapeOf (m .body)) ≡ t → (v : Bool) → allowed (m .body) ≡ v → judgedAs f (shapeOf (m .body)) (allowed (m .body)) k room ≡ Refused ValueNotAllowed
+      by : (t : Bool) → sameShape own (shapeOf (m .body)) ≡ t → (v : Bool) → allowed (m .body) ≡ v → judgedAs (fitOf f (shapeOf (m .body))) (allowed (m .body)) k room ≡ Refused ValueNotAllowed
       by false other v q = rw (found, other)
       by true same false bad = rw (found, same, bad)
       by true same true ok = absurd (unfit (same-shape own (shapeOf (m .body)) same, ok))

@@ -1,26 +1,28 @@
 -- A message is written exactly when a side sends it and there is room, and what was written is its encoding.
 use mathlib.Core.Path.{_≡_, refl, sym, ap, _∙_}
 use mathlib.Core.List.{List, [], _∷_, _++_}
-use mathlib.Core.Bool.{true}
+use mathlib.Core.Bool.{Bool, true, false}
 use mathlib.Core.Logic.{_↔_}
 use Prim.Native.Nat.{ℕ, _+_, _≤_}
 use native.Mathlib.Omega.{arith}
 use lib.Dec.{ltb}
 use lib.ListN.{length, take, drop, getD}
 use borrow.Author.Tests.{le-ltb, ltb-false, eqb-true, eq-eqb}
-use Rattle.wire.specs.Bytes.{IsBytes, int}
+use Rattle.wire.specs.Bytes.{IsBytes, if, int}
 use Rattle.sedna.specs.declared.Side.{Side}
 use Rattle.sedna.specs.declared.Shape.{Shape}
 use Rattle.sedna.specs.declared.Shape.the-variants.{Empty, Session, Text, Statement, Coded, Options, Item}
 use Rattle.sedna.specs.declared.Found.{Found}
 use Rattle.sedna.specs.declared.Found.the-variants.{Known, Unknown}
+use Rattle.sedna.specs.declared.Fit.the-variants.{Same, Other}
 use Rattle.sedna.specs.Allowed.{allowed}
 use Rattle.sedna.specs.Encode.{bodyBytes, encode}
 use Rattle.sedna.specs.Kinds.{shapeNumber, sameShape}
 use Rattle.sedna.specs.Message.{Message, shapeOf}
 use Rattle.sedna.specs.Published.{Published, Writable}
-use Rattle.sedna.specs.Table.{findOf}
+use Rattle.sedna.specs.Table.{findOf, fitOf}
 use Rattle.sedna_read.specs.Reading.{Answer, reading}
+use Rattle.sedna_write.specs.declared.Written.{Written}
 use Rattle.sedna_write.specs.declared.Written.the-variants.{Bytes}
 use Rattle.sedna_write.specs.Writing.{judgedAs, judgement, written, left}
 use Rattle.sedna_exact.proofs.Branches.{apart, either}
@@ -48,6 +50,11 @@ pub encode-length : (m : Message) → length (encode m) ≡ 8 + length (bodyByte
 unfolding encode int
 encode-length m = omega arith
 
+-- a body of the shape that the table has, or of another one
+pub fitted : {P : Type 0} (t ok : Bool) (n room : ℕ) {w : Written} → judgedAs (if t Same Other) ok n room ≡ w → (t ≡ true → judgedAs Same ok n room ≡ w → P) → (t ≡ false → judgedAs Other ok n room ≡ w → P) → P
+fitted true ok n room e same other = same refl e
+fitted false ok n room e same other = other refl e
+
 written-back : (room : ℕ) (m : Message) (n : ℕ) → written room m ≡ Bytes n → Writable room m n
 unfolding judgement
 written-back room m n e = by (findOf (m .instruction)) refl e
@@ -55,10 +62,10 @@ written-back room m n e = by (findOf (m .instruction)) refl e
     k : ℕ
     k = length (bodyBytes (m .body))
 
-    by : (f : Found) → findOf (m .instruction) ≡ f → judgedAs f (shapeOf (m .body)) (allowed (m .body)) k room ≡ Bytes n → Writable room m n
+    by : (f : Found) → findOf (m .instruction) ≡ f → judgedAs (fitOf f (shapeOf (m .body))) (allowed (m .body)) k room ≡ Bytes n → Writable room m n
     by Unknown found e = apart (cc)
     by (Known sender own) found e =
-        either (sameShape own (shapeOf (m .body))) _ _ e
+        fitted (sameShape own (shapeOf (m .body))) (allowed (m .body)) k room e
         (λ same e₁. either (allowed (m .body)) _ _ e₁
         (λ ok e₂. either (ltb 10240 k) _ _ e₂ (λ _ q. apart (cc)) λ short e₃.
         either (ltb room (8 + k)) _ _ e₃ (λ _ q. apart (cc)) λ fits e₄.

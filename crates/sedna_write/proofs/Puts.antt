@@ -7,17 +7,15 @@ use native.Mathlib.Omega.{arith}
 use lib.Dec.{ltb}
 use lib.ListN.{length, drop, length-append}
 use borrow.Author.Tests.{ltb-true, ltb-false, lt-ltb}
-use Rattle.wire.specs.Bytes.{if, int, over}
-use Rattle.wire.specs.declared.Refusal.the-variants.{ValueNotAllowed}
+use Rattle.wire.specs.Bytes.{int, over}
 use Rattle.wire.proofs.Over.{Ahead, start, step, over-none}
 use Rattle.sedna.specs.declared.Shape.{Shape}
-use Rattle.sedna.specs.declared.Found.{Found}
-use Rattle.sedna.specs.declared.Found.the-variants as found
+use Rattle.sedna.specs.declared.Fit.{Fit}
+use Rattle.sedna.specs.declared.Fit.the-variants as fit
 use Rattle.sedna.specs.Allowed.{allowed}
 use Rattle.sedna.specs.Encode.{string, urlBytes, bodyBytes, encode}
-use Rattle.sedna.specs.Kinds.{sameShape}
 use Rattle.sedna.specs.Message.{Url, Body, Message, shapeOf, message}
-use Rattle.sedna.specs.Table.{findOf}
+use Rattle.sedna.specs.Table.{findOf, fitOf}
 use Rattle.sedna_write.specs.declared.Written.{Written}
 use Rattle.sedna_write.specs.declared.Written.the-variants.{Bytes, Refused}
 use Rattle.sedna_write.specs.Writing.{judgedAs, judgement, written, left, Fits, headed}
@@ -55,11 +53,12 @@ module _ (d : List ℕ) (m : Message) (n : ℕ) (counted : length (bodyBytes (m 
 -- a body that is too long is too long however much
 pub judgement-long : (i : ℕ) (sh : Shape) (ok : Bool) (x y room : ℕ) → 10240 < x → 10240 < y → judgement i sh ok x room ≡ judgement i sh ok y room
 unfolding judgement
-judgement-long i sh ok x y room h k = by (findOf i)
+judgement-long i sh ok x y room h k = by (fitOf (findOf i) sh)
   where
-    by : (f : Found) → judgedAs f sh ok x room ≡ judgedAs f sh ok y room
-    by found.Unknown = refl
-    by (found.Known j e) = rw (lt-ltb 10240 x h, lt-ltb 10240 y k)
+    by : (f : Fit) → judgedAs f ok x room ≡ judgedAs f ok y room
+    by fit.Unknown = refl
+    by fit.Other = refl
+    by fit.Same = rw (lt-ltb 10240 x h, lt-ltb 10240 y k)
 
 pub judgement-capped : (i : ℕ) (sh : Shape) (ok : Bool) (m c room : ℕ) → judgement i sh ok (min 10241 m + c) room ≡ judgement i sh ok (m + c) room
 judgement-capped i sh ok m c room = by (ltb m 10241) refl
@@ -76,24 +75,22 @@ judgement-capped i sh ok m c room = by (ltb m 10241) refl
 -- values that are not allowed are refused whatever the length, and only allowed ones are written
 pub judgement-false : (i : ℕ) (sh : Shape) (x y room : ℕ) → judgement i sh false x room ≡ judgement i sh false y room
 unfolding judgement
-judgement-false i sh x y room = by (findOf i)
+judgement-false i sh x y room = by (fitOf (findOf i) sh)
   where
-    by : (f : Found) → judgedAs f sh false x room ≡ judgedAs f sh false y room
-    by found.Unknown = refl
-    by (found.Known j e) = refl
+    by : (f : Fit) → judgedAs f false x room ≡ judgedAs f false y room
+    by fit.Unknown = refl
+    by fit.Other = refl
+    by fit.Same = refl
 
 pub bytes-allowed : (i : ℕ) (sh : Shape) (ok : Bool) (n room k : ℕ) → judgement i sh ok n room ≡ Bytes k → ok ≡ true
 unfolding judgement
 bytes-allowed i sh true n room k e = refl
-bytes-allowed i sh false n room k e = by (findOf i) e
+bytes-allowed i sh false n room k e = by (fitOf (findOf i) sh) e
   where
-    same : (t : Bool) → if t (Refused ValueNotAllowed) (Refused ValueNotAllowed) ≡ Refused ValueNotAllowed
-    same true = refl
-    same false = refl
-
-    by : (f : Found) → judgedAs f sh false n room ≡ Bytes k → false ≡ true
-    by found.Unknown e = cc
-    by (found.Known j r) e = let q : Refused ValueNotAllowed ≡ Bytes k = sym (same (sameShape r sh)) ∙ e in cc
+    by : (f : Fit) → judgedAs f false n room ≡ Bytes k → false ≡ true
+    by fit.Unknown e = cc
+    by fit.Other e = cc
+    by fit.Same e = cc
 
 -- how many bytes each body has
 pub text-counted : (t : List ℕ) → length (bodyBytes (Body.text t)) ≡ length t + 5

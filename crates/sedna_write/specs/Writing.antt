@@ -8,13 +8,12 @@ use lib.ListN.{length, drop}
 use Rattle.wire.specs.Bytes.{if, int, placed}
 use Rattle.wire.specs.declared.Refusal.the-variants.{UnknownInstruction, ValueNotAllowed, NoRoom, NoEncoding}
 use Rattle.sedna.specs.declared.Shape.{Shape}
-use Rattle.sedna.specs.declared.Found.{Found}
-use Rattle.sedna.specs.declared.Found.the-variants as found
+use Rattle.sedna.specs.declared.Fit.{Fit}
+use Rattle.sedna.specs.declared.Fit.the-variants as fit
 use Rattle.sedna.specs.Allowed.{allowed}
 use Rattle.sedna.specs.Encode.{bodyBytes, encode}
-use Rattle.sedna.specs.Kinds.{sameShape}
 use Rattle.sedna.specs.Message.{Message, shapeOf}
-use Rattle.sedna.specs.Table.{findOf}
+use Rattle.sedna.specs.Table.{findOf, fitOf}
 use Rattle.sedna_write.specs.declared.Written.{Written}
 use Rattle.sedna_write.specs.declared.Written.the-variants.{Bytes, Refused}
 
@@ -23,14 +22,14 @@ abbrev pub inRoom : ℕ → ℕ → Written
 inRoom n room = if (ltb room (8 + n)) (Refused NoRoom) (Bytes (8 + n))
 
 -- 2 for an instruction that the table lacks; 8 for one with another body, and for a value that is not allowed; 11 for a body above 10,240 bytes
-abbrev pub judgedAs : Found → Shape → Bool → ℕ → ℕ → Written
-judgedAs found.Unknown shape ok n room = Refused UnknownInstruction
-judgedAs (found.Known sender own) shape ok n room =
-    if (sameShape own shape) (if ok (if (ltb 10240 n) (Refused NoEncoding) (inRoom n room)) (Refused ValueNotAllowed)) (Refused ValueNotAllowed)
+abbrev pub judgedAs : Fit → Bool → ℕ → ℕ → Written
+judgedAs fit.Unknown ok n room = Refused UnknownInstruction
+judgedAs fit.Other ok n room = Refused ValueNotAllowed
+judgedAs fit.Same ok n room = if ok (if (ltb 10240 n) (Refused NoEncoding) (inRoom n room)) (Refused ValueNotAllowed)
 
 -- the answer to a body of n bytes of a shape, with allowed values or not, for an output of so many bytes
 unfoldable pub judgement : ℕ → Shape → Bool → ℕ → ℕ → Written
-judgement instruction shape ok n room = judgedAs (findOf instruction) shape ok n room
+judgement instruction shape ok n room = judgedAs (fitOf (findOf instruction) shape) ok n room
 
 -- what writing m answers
 abbrev pub written : ℕ → Message → Written

@@ -9,7 +9,7 @@ ghost use Rattle.sedna.specs.Encode.{string, pairBytes, pairsBytes};
 ghost use Rattle.sedna.specs.Message.{Url, Body, message};
 ghost use Rattle.sedna_write.specs.Pairs.{sum, given, pairsOf};
 ghost use Rattle.sedna_write.specs.Writing.{judgement, written, left, Fits, headed};
-use sedna::Found;
+use sedna::Fit;
 use sedna::Shape;
 use wire::Refusal;
 
@@ -23,12 +23,10 @@ pub enum Written {
 fn judge(instruction: u32, shape: Shape, allowed: bool, n: usize, room: usize) -> Written
     ensures { λ r. ⌜ (r ≡ judgement instruction shape allowed n room) × Fits n room r ⌝ }
 {
-    match sedna::find(instruction) {
-        Found::Unknown => Written::Refused(Refusal::UnknownInstruction),
-        Found::Known(_, own) => {
-            if sedna::shape_number(own) != sedna::shape_number(shape) {
-                return Written::Refused(Refusal::ValueNotAllowed);
-            }
+    match sedna::fits(instruction, shape) {
+        Fit::Unknown => Written::Refused(Refusal::UnknownInstruction),
+        Fit::Other => Written::Refused(Refusal::ValueNotAllowed),
+        Fit::Same => {
             if allowed {
                 if 10240 < n {
                     return Written::Refused(Refusal::NoEncoding);
