@@ -86,15 +86,12 @@ fn few_end(s: &[u8], from: usize) -> usize
     at
 }
 
-// Past plain bytes: a few one by one, so that a short run costs no more than its bytes, then blocks.
+// Past plain bytes: blocks, and then a few one by one, up to where no block is plain.
 fn run_end(s: &[u8], from: usize) -> usize
     ensures { λ r. ⌜ (from + min 16 (run (drop from (now (s .entry)))) ≤ r) × (r ≤ from + run (drop from (now (s .entry)))) ⌝ }
 {
-    let few = few_end(s, from);
-    if few - from < 16 {
-        return few;
-    }
-    skip_blocks(s, few)
+    let blocks = skip_blocks(s, from);
+    few_end(s, blocks)
 }
 
 // How many pairs stand at `from`, eight at most. Where one stands, others often follow.
