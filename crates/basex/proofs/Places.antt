@@ -1,20 +1,20 @@
 -- Strings where they stand in a slice: each starts where the one before it ends.
 use mathlib.Core.Path.{_≡_, refl, sym, ap, subst, _∙_}
 use mathlib.Core.List.{List}
-use mathlib.Core.Bool.{Bool, true, false}
 use Prim.Native.Nat.{ℕ, suc, _+_, _-_, _≤_}
 use native.Mathlib.Omega.{arith}
-use lib.Dec.{ltb}
 use lib.ListN.{length, drop, length-drop}
-use borrow.Author.Tests.{ltb-false}
-use Rattle.wire.specs.Bytes.{placed}
+use Rattle.wire.specs.Bytes.{over}
 use Rattle.wire.specs.Fields.{Got}
 use Rattle.wire.specs.declared.Refusal.{Refusal}
 use Rattle.basex_string.specs.declared.StringAt.the-variants as string-at
-use Rattle.basex_string.specs.Answers.{located, decoded, left}
+use Rattle.basex_string.specs.declared.Ends.{Ends}
+use Rattle.basex_string.specs.Answers.{located}
 use Rattle.basex_string.specs.Scan.{reading}
 use Rattle.basex_string.specs.Strings.{string}
+use Rattle.basex_string.specs.Taking.{Taken, taken, ended}
 use Rattle.basex_string.proofs.Laws.{next-field}
+use Rattle.basex_string.proofs.Taking.{taken-left}
 use Rattle.basex.specs.declared.TwoAt.the-variants.{At, Refused}
 use Rattle.basex.specs.Texts.{texts, twoAt, stored}
 
@@ -80,35 +80,14 @@ module _ (b : List ℕ) (at : ℕ) where
         let n : last ≡ at + (length b - at - length (g .rest)) = let d = h .ends in let e = g .ends in let s = g .sum in omega arith in
         rw (h .got) (rw q (rw (h .long, g .long) (ap (At (length (h .text)) (length (g .text))) n)))
 
--- one more text is stored, or none and it is over
-module _ (b out : List ℕ) (from to : ℕ) where
-  pub stops : (r : Refusal) (k : ℕ) → decoded (length b) (length out) to (reading (drop from b)) ≡ string-at.Refused r → (stored (suc k) out to (drop from b) ≡ record { out = out; to = to; rest = drop from b }) × (left out to (reading (drop from b)) ≡ out)
-  unfolding stored placed
-  stops r k e = by (reading (drop from b)) refl e
-    where
-      by : (x : Got (List ℕ)) → reading (drop from b) ≡ x → decoded (length b) (length out) to x ≡ string-at.Refused r → (stored (suc k) out to (drop from b) ≡ record { out = out; to = to; rest = drop from b }) × (left out to x ≡ out)
-      by (Got.refused q) p d = (rw p refl, refl)
-      by (Got.got t rest) p d = room (ltb (length out) (to + length t)) refl d
-        where
-          room : (f : Bool) → ltb (length out) (to + length t) ≡ f → decoded (length b) (length out) to (Got.got t rest) ≡ string-at.Refused r → (stored (suc k) out to (drop from b) ≡ record { out = out; to = to; rest = drop from b }) × (left out to (Got.got t rest) ≡ out)
-          room true f d = (rw p (rw f refl), rw f refl)
-          room false f d = let z : string-at.At (length t) (length b - length rest) ≡ string-at.Refused r = rw f at d in let y : _≡_ {A = ℕ} 0 1 = cc in absurd (omega arith)
-
-  pub goes : (k len next : ℕ) → decoded (length b) (length out) to (reading (drop from b)) ≡ string-at.At len next → Here b from len next × (to + len ≤ length out) × (stored (suc k) out to (drop from b) ≡ stored k (left out to (reading (drop from b))) (to + len) (drop next b))
-  unfolding stored placed
-  goes k len next e = by (reading (drop from b)) refl e
-    where
-      by : (x : Got (List ℕ)) → reading (drop from b) ≡ x → decoded (length b) (length out) to x ≡ string-at.At len next → Here b from len next × (to + len ≤ length out) × (stored (suc k) out to (drop from b) ≡ stored k (left out to x) (to + len) (drop next b))
-      by (Got.refused q) p d = let z : _≡_ {A = ℕ} 0 1 = cc in absurd (omega arith)
-      by (Got.got t rest) p d = room (ltb (length out) (to + length t)) refl d
-        where
-          room : (f : Bool) → ltb (length out) (to + length t) ≡ f → decoded (length b) (length out) to (Got.got t rest) ≡ string-at.At len next → Here b from len next × (to + len ≤ length out) × (stored (suc k) out to (drop from b) ≡ stored k (left out to (Got.got t rest)) (to + len) (drop next b))
-          room true f d = let z : string-at.Refused _ ≡ string-at.At len next = rw f at d in let y : _≡_ {A = ℕ} 0 1 = cc in absurd (omega arith)
-          room false f d =
-              let z : string-at.At (length t) (length b - length rest) ≡ string-at.At len next = rw f at d in
-              let h = here b from len next (ap (located (length b)) p ∙ z) in
-              let l : length t ≡ len = cc in
-              let w : to + length t ≤ length out = ltb-false _ _ f in
-              let g : Got.got (h .text) (h .rest) ≡ Got.got t rest = sym (h .got) ∙ p in
-              let s : h .rest ≡ rest = cc in
-              (h, (omega arith), rw p (rw f (rw (sym l, h .behind ∙ s) refl)))
+-- one more text is stored
+pub one-more : (b out : List ℕ) (from to k : ℕ) (r : Ends) → r ≡ ended from (length b - from) to (taken (length out - to) (drop from b))
+    → (from ≤ r .next) × (r .next ≤ from + (length b - from))
+    × (stored (suc k) out to (drop from b) ≡ stored k (over out to (taken (length out - to) (drop from b) .text)) (r .to) (drop (r .next) b))
+unfolding stored
+one-more b out from to k r e =
+    let x : Taken = taken (length out - to) (drop from b) in
+    let n : r .next ≡ from + (length b - from - length (x .rest)) = ap (λ (m : Ends). m .next) e in
+    let t : r .to ≡ to + length (x .text) = ap (λ (m : Ends). m .to) e in
+    let d : drop (r .next) b ≡ x .rest = ap (λ (m : ℕ). drop m b) n ∙ taken-left (length out - to) b from in
+    (omega arith, omega arith, ap (λ (m : ℕ). stored k (over out to (x .text)) m (x .rest)) (sym t) ∙ ap (stored k (over out to (x .text)) (r .to)) (sym d))

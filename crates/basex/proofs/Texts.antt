@@ -2,10 +2,9 @@
 use mathlib.Core.Path.{_≡_, refl, sym, ap, _∙_}
 use mathlib.Core.List.{List, [], _∷_, _++_, flatten, append-assoc}
 use mathlib.Core.Logic.{_⊎_}
-use Prim.Native.Nat.{ℕ, zero, suc, _+_, _≤_}
+use Prim.Native.Nat.{ℕ, zero, suc, _+_, _-_, _≤_}
 use native.Mathlib.Omega.{arith}
 use lib.ListN.{length, length-append}
-use borrow.Author.Tests.{le-ltb}
 use Rattle.wire.specs.Bytes.{over}
 use Rattle.wire.specs.Fields.{Got, goOn, give}
 use Rattle.wire.specs.declared.Refusal.{Refusal}
@@ -13,7 +12,9 @@ use Rattle.wire.specs.declared.Refusal.the-variants.{MoreBytes, BadEscape}
 use Rattle.wire.proofs.Over.{length-over, over-over, over-none}
 use Rattle.basex_string.specs.Scan.{reading}
 use Rattle.basex_string.specs.Strings.{string}
+use Rattle.basex_string.specs.Taking.{Taken}
 use Rattle.basex_string.proofs.Laws.{exact, read-written, refuses}
+use Rattle.basex_string.proofs.Taking.{taken-read}
 use Rattle.basex.specs.Texts.{strings, texts, stored}
 
 -- the texts of strings that were read, behind one that was read first
@@ -108,4 +109,5 @@ texts-stored (suc n) out to s ts rest e h =
     let v = over-over out to t (flatten us) (omega arith) in
     let k : to + length t + length (flatten us) ≡ to + length (flatten ts) = omega arith in
     let w = v ∙ ap (λ (m : List (List ℕ)). over out to (flatten m)) (g .all) in
-    rw (g .got) (rw (le-ltb (length out) (to + length t) (omega arith)) (i ∙ ap (λ (m : List ℕ). record { out = m; to = to + length t + length (flatten us); rest = rest }) w ∙ ap (λ (m : ℕ). record { out = over out to (flatten ts); to = m; rest = rest }) k))
+    ap (λ (x : Taken). stored n (over out to (x .text)) (to + length (x .text)) (x .rest)) (taken-read (length out - to) s t (g .behind) (g .got) (omega arith))
+    ∙ i ∙ ap (λ (m : List ℕ). record { out = m; to = to + length t + length (flatten us); rest = rest }) w ∙ ap (λ (m : ℕ). record { out = over out to (flatten ts); to = m; rest = rest }) k

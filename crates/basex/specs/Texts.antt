@@ -2,13 +2,14 @@
 use mathlib.Core.Bool.{Bool}
 use mathlib.Core.List.{List, [], _∷_, _++_, flatten}
 use Prim.Native.Nat.{ℕ, zero, suc, _+_, _-_}
-use lib.Dec.{ltb, eqb}
+use lib.Dec.{eqb}
 use lib.ListN.{length, drop, getD}
-use Rattle.wire.specs.Bytes.{if, over}
+use Rattle.wire.specs.Bytes.{over}
 use Rattle.wire.specs.Fields.{Got, Field, _>>=_, give}
 use Rattle.basex_string.specs.Strings.{string}
 use Rattle.basex_string.specs.Scan.{reading}
-use Rattle.basex.specs.declared.Ends.{Ends}
+use Rattle.basex_string.specs.Taking.{Taken, taken}
+use Rattle.basex_string.specs.declared.Ends.{Ends}
 use Rattle.basex.specs.declared.TwoAt.{TwoAt}
 use Rattle.basex.specs.declared.TwoAt.the-variants.{At, Refused}
 
@@ -43,15 +44,14 @@ pub record Stored : Type 0 where
   pub to : ℕ
   pub rest : List ℕ
 
--- the text that was read put from `to` on, and what comes then; nothing where none was read or it does not fit
-abbrev pub onward : List ℕ → ℕ → List ℕ → Got (List ℕ) → (List ℕ → ℕ → List ℕ → Stored) → Stored
-onward out to s (Got.refused r) next = record { out = out; to = to; rest = s }
-onward out to s (Got.got t rest) next = if (ltb (length out) (to + length t)) (record { out = out; to = to; rest = s }) (next (over out to t) (to + length t) rest)
+-- a text that was taken is put from `to` on, and it goes on
+abbrev pub onward : List ℕ → ℕ → Taken → (List ℕ → ℕ → List ℕ → Stored) → Stored
+onward out to t next = next (over out to (t .text)) (to + length (t .text)) (t .rest)
 
--- the texts of up to n strings, one behind the other from `to` on, as far as they read well and fit
+-- the texts of n strings, one behind the other from `to` on, as far as there is room
 unfoldable pub stored : ℕ → List ℕ → ℕ → List ℕ → Stored
 stored zero out to s = record { out = out; to = to; rest = s }
-stored (suc n) out to s = onward out to s (reading s) (stored n)
+stored (suc n) out to s = onward out to (taken (length out - to) s) (stored n)
 
 -- of n bytes from `at` on, what is left to read starts there
 abbrev pub ends : ℕ → ℕ → Stored → Ends

@@ -5,6 +5,7 @@ ghost use Prim.Native.Nat.{_-_, min};
 ghost use lib.ListN.{length, drop};
 ghost use Rattle.basex.specs.Kinds.{kinds, findOf, rowByte, startsCommand, isCommand, ahead, behind, listed, isFull, idAllowed, itemStrings};
 ghost use Rattle.basex.specs.Texts.{texts, twoAt, stored, ends};
+use basex_string::Ends;
 use basex_string::StringAt;
 use wire::Refusal;
 
@@ -223,14 +224,8 @@ pub fn two_at(bytes: &[u8], at: usize, n: usize) -> TwoAt
     }
 }
 
-// Where the next field starts, and where the output is free again.
-pub struct Ends {
-    pub next: usize,
-    pub to: usize,
-}
-
-// The texts of n strings from `at` on, one behind the other from `to` on. It stops at a string that
-// is refused or does not fit: whoever wants all or nothing judges first.
+// The texts of n strings from `at` on, one behind the other from `to` on, as far as there is room.
+// Nothing is judged: whoever wants all or nothing judges first.
 pub fn put_texts(bytes: &[u8], at: usize, n: usize, out: &mut [u8], to: usize) -> Ends
     ensures { λ r. ⌜ (r ≡ ends at (length (now (bytes .entry)) - at) (stored n (now (out .entry)) to (drop at (now (bytes .entry))))) × (now (out .exit) ≡ stored n (now (out .entry)) to (drop at (now (bytes .entry))) .out) ⌝ }
 {
@@ -238,19 +233,10 @@ pub fn put_texts(bytes: &[u8], at: usize, n: usize, out: &mut [u8], to: usize) -
     let mut end = to;
     let mut i: usize = 0;
     while i < n {
-        match basex_string::decode(bytes, from, out, end) {
-            StringAt::Refused(_) => {
-                return Ends {
-                    next: from,
-                    to: end,
-                };
-            }
-            StringAt::At { len, next } => {
-                from = next;
-                end += len;
-                i += 1;
-            }
-        }
+        let put = basex_string::put_text(bytes, from, out, end);
+        from = put.next;
+        end = put.to;
+        i += 1;
     }
     Ends {
         next: from,

@@ -9,7 +9,7 @@ use Rattle.wire.specs.Bytes.{over}
 use Rattle.wire.specs.Fields.{Got, goOn, give}
 use Rattle.wire.proofs.Over.{Ahead, start, step, placed-fits, over-none}
 use Rattle.basex_string.proofs.Steps.{here, ahead-none}
-use Rattle.basex.specs.declared.Ends.{Ends}
+use Rattle.basex_string.specs.declared.Ends.{Ends}
 use Rattle.basex.specs.declared.Reply.{Reply}
 use Rattle.basex.specs.Kinds.{itemStrings, listed, isFull}
 use Rattle.basex.specs.Response.{Item, itemsBytes}

@@ -13,7 +13,7 @@ use Rattle.wire.specs.declared.Refusal.{Refusal}
 use Rattle.wire.specs.declared.Refusal.the-variants.{MoreBytes, ValueNotAllowed, NoRoom}
 use Rattle.wire.proofs.Over.{Ahead, start, step, placed-fits, placed-not}
 use Rattle.basex_string.proofs.Steps.{ahead-none}
-use Rattle.basex.specs.declared.Ends.{Ends}
+use Rattle.basex_string.specs.declared.Ends.{Ends}
 use Rattle.basex.specs.declared.Reply.{Reply}
 use Rattle.basex.specs.Kinds.{findOf, ahead, behind, listed, isFull, statusAllowed}
 use Rattle.basex.specs.Response.{Item, Response, listBytes}

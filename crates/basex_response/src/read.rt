@@ -9,10 +9,10 @@ ghost use Rattle.basex_response.specs.Judging.{itemsAt, ending, endAt, j
 use crate::Replied;
 use crate::items::ItemsAt;
 use crate::items::items_at;
-use basex::Ends;
 use basex::Found;
 use basex::Reply;
 use basex::TwoAt;
+use basex_string::Ends;
 use wire::Refusal;
 
 // The list of items that starts at `at`, where the response has one.

@@ -5,3 +5,5 @@ pub mod Runs
 pub mod Pairs
 pub mod Few
 pub mod Laws
+pub mod Copies
+pub mod Taking

@@ -48,7 +48,7 @@ run-further (b ∷ l) (suc m) h = by (special b) (run-further l m) h
     by true f h = absurd (omega arith)
     by false f h = let z = f (omega arith) in omega arith
 
-run-within : (l : List ℕ) → run l ≤ length l
+pub run-within : (l : List ℕ) → run l ≤ length l
 unfolding run
 run-within [] = omega arith
 run-within (b ∷ l) = by (special b) (run-within l)

@@ -1,3 +1,4 @@
 pub mod Strings
 pub mod Scan
 pub mod Answers
+pub mod Taking

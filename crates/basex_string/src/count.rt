@@ -5,7 +5,7 @@ ghost use lib.ListN.{length};
 ghost use Rattle.basex_string.specs.Answers.{specials};
 use crate::is_special;
 
-fn least(a: usize, b: usize) -> usize
+pub fn least(a: usize, b: usize) -> usize
     ensures { λ r. ⌜ r ≡ min a b ⌝ }
 {
     if a < b { a } else { b }

@@ -10,9 +10,11 @@ ghost use Rattle.wire.specs.Bytes.{if, over, placed};
 ghost use Rattle.basex_string.specs.Strings.{special, string};
 ghost use Rattle.basex_string.specs.Scan.{reading};
 ghost use Rattle.basex_string.specs.Answers.{run, pairs, spelling, located, decoded, left, textOf};
+pub use put::put_text;
 use wire::Refusal;
 
 mod count;
+mod put;
 
 // How many bytes were written, or why none was.
 pub enum Spelled {
@@ -24,6 +26,12 @@ pub enum Spelled {
 pub enum StringAt {
     At { len: usize, next: usize },
     Refused(Refusal),
+}
+
+// Where the next field starts, and where the output is free again.
+pub struct Ends {
+    pub next: usize,
+    pub to: usize,
 }
 
 // 00 and FF.

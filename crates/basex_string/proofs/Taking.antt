@@ -1,0 +1,214 @@
+-- Taking a text: one step of it, and that of a string that reads well and fits it takes the text.
+use mathlib.Core.Path.{_≡_, refl, sym, ap, _∙_}
+use mathlib.Core.List.{List, [], _∷_, _++_}
+use mathlib.Core.Bool.{Bool, true, false}
+use Prim.Native.Nat.{ℕ, zero, suc, _+_, _-_, _≤_, _<_}
+use native.Mathlib.Omega.{arith}
+use lib.Dec.{eqb}
+use lib.ListN.{length, take, drop, getD, set, length-append, length-drop, drop-of-length-le}
+use lib.Seq.{drop-drop, length-take-le}
+use borrow.Author.Tests.{eq-eqb, ne-eqb, eqb-false}
+use Rattle.wire.specs.Bytes.{if, over}
+use Rattle.wire.specs.Fields.{Got}
+use Rattle.wire.proofs.Over.{over-none, over-over, over-sets, length-over}
+use Rattle.basex_string.specs.Strings.{special, escaped, string}
+use Rattle.basex_string.specs.Scan.{reading}
+use Rattle.basex_string.specs.Answers.{run}
+use Rattle.basex_string.specs.Taking.{Taken, stop, keep, taking, taken, ended}
+use Rattle.basex_string.proofs.Steps.{here}
+use Rattle.basex_string.proofs.Runs.{run-within}
+use Rattle.basex_string.proofs.Laws.{escaped-append, exact}
+
+-- no more than there is room for, and so behind an FF
+both-fit : (s : List ℕ) (room : ℕ) → (length (taken room s .text) ≤ room) × (0 < room → length (taking true room s .text) ≤ room)
+unfolding taking
+both-fit [] room = (omega arith, λ (h : 0 < room). omega arith)
+both-fit (b ∷ s) room = (by (eqb b 0) (eqb room 0) refl (eqb b 255) (both-fit s room .1) (both-fit s (room - 1) .0), second (both-fit s (room - 1) .0))
+  where
+    second : length (taken (room - 1) s .text) ≤ room - 1 → 0 < room → suc (length (taken (room - 1) s .text)) ≤ room
+    second i h = omega arith
+
+    by : (z r : Bool) → eqb room 0 ≡ r → (f : Bool) → (0 < room → length (taking true room s .text) ≤ room) → length (taken (room - 1) s .text) ≤ room - 1
+        → length (if z (stop s) (if r (stop (b ∷ s)) (if f (taking true room s) (keep b (taken (room - 1) s)))) .text) ≤ room
+    by true r p f i j = omega arith
+    by false true p f i j = omega arith
+    by false false p true i j = let z = eqb-false room 0 p in i (omega arith)
+    by false false p false i j = let z = eqb-false room 0 p in omega arith
+
+pub taken-fits : (room : ℕ) (s : List ℕ) → length (taken room s .text) ≤ room
+taken-fits room s = both-fit s room .0
+
+pub taken-end : (room : ℕ) (s : List ℕ) (i : ℕ) → length s ≤ i → taken room (drop i s) ≡ stop []
+unfolding taking
+taken-end room s i h = ap (taken room) (drop-of-length-le s h)
+
+-- what is taken behind a part
+abbrev pub keeps : List ℕ → Taken → Taken
+keeps x t = record { text = x ++ t .text; rest = t .rest }
+
+taken-plain : (room b : ℕ) (s : List ℕ) → 0 < room → special b ≡ false → taken room (b ∷ s) ≡ keep b (taken (room - 1) s)
+unfolding taking
+taken-plain room b s h = by (eqb b 0) refl (eqb b 255) refl
+  where
+    r : eqb room 0 ≡ false
+    r = ne-eqb room 0 (λ (z : room ≡ 0). omega arith)
+
+    by : (z : Bool) → eqb b 0 ≡ z → (f : Bool) → eqb b 255 ≡ f → special b ≡ false → taken room (b ∷ s) ≡ keep b (taken (room - 1) s)
+    by true p f q e = let w : true ≡ false = rw p at e in cc
+    by false p true q e = let w : true ≡ false = rw (p, q) at e in cc
+    by false p false q e = rw (p, q, r)
+
+taken-run : (m room : ℕ) (s : List ℕ) → m ≤ run s → m ≤ room → taken room s ≡ keeps (take m s) (taken (room - m) (drop m s))
+unfolding run
+taken-run zero room s h k = let e : room - 0 ≡ room = omega arith in rw e
+taken-run (suc m) room [] h k = absurd (omega arith)
+taken-run (suc m) room (b ∷ s) h k = by (special b) refl (taken-run m (room - 1) s) h
+  where
+    by : (t : Bool) → special b ≡ t → (m ≤ run s → m ≤ room - 1 → taken (room - 1) s ≡ keeps (take m s) (taken (room - 1 - m) (drop m s))) → suc m ≤ if t 0 (suc (run s))
+        → taken room (b ∷ s) ≡ keeps (b ∷ take m s) (taken (room - suc m) (drop m s))
+    by true e f h = absurd (omega arith)
+    by false e f h =
+        let z : room - 1 - m ≡ room - suc m = omega arith in
+        taken-plain room b s (omega arith) e ∙ ap (keep b) (f (omega arith) (omega arith)) ∙ ap (λ (n : ℕ). keeps (b ∷ take m s) (taken n (drop m s))) z
+
+-- one step at a place
+module _ (room : ℕ) (s : List ℕ) (i : ℕ) (h : i < length s) where
+  pub taken-zero : getD s i 0 ≡ 0 → taken room (drop i s) ≡ stop (drop (i + 1) s)
+  unfolding taking
+  taken-zero e = ap (taken room) (here s i h) ∙ rw (eq-eqb (getD s i 0) 0 e)
+
+  pub taken-full : (getD s i 0 ≡ 0 → ⊥) → room ≡ 0 → taken room (drop i s) ≡ stop (drop i s)
+  unfolding taking
+  taken-full z e = ap (taken room) (here s i h) ∙ rw (ne-eqb (getD s i 0) 0 z, eq-eqb room 0 e) (ap stop (sym (here s i h)))
+
+  module _ (r : 0 < room) (e : getD s i 0 ≡ 255) where
+    taken-escape : taken room (drop i s) ≡ taking true room (drop (i + 1) s)
+    unfolding taking
+    taken-escape = ap (taken room) (here s i h) ∙ rw (e, ne-eqb room 0 (λ (z : room ≡ 0). omega arith))
+
+    pub taken-cut : length s ≤ i + 1 → taken room (drop i s) ≡ stop []
+    unfolding taking
+    taken-cut k = taken-escape ∙ ap (taking true room) (drop-of-length-le s k)
+
+    pub taken-pair : i + 1 < length s → taken room (drop i s) ≡ keeps (getD s (i + 1) 0 ∷ []) (taken (room - 1) (drop (i + 2) s))
+    unfolding taking
+    taken-pair k =
+        let m : i + 1 + 1 ≡ i + 2 = omega arith in
+        taken-escape ∙ ap (taking true room) (here s (i + 1) k ∙ ap (λ (n : ℕ). getD s (i + 1) 0 ∷ drop n s) m)
+
+-- k plain bytes
+pub taken-plains : (room : ℕ) (s : List ℕ) (i k : ℕ) → k ≤ run (drop i s) → k ≤ room → taken room (drop i s) ≡ keeps (take k (drop i s)) (taken (room - k) (drop (i + k) s))
+taken-plains room s i k h f = taken-run k room (drop i s) h f ∙ ap (λ (l : List ℕ). keeps (take k (drop i s)) (taken (room - k) l)) (drop-drop k i s)
+
+-- the loop of `put_text`: what is taken from i on, put from n on, makes t of the output, which is free from `last` on then, and leaves `rest`
+pub record Going (s t rest : List ℕ) (last : ℕ) (d : List ℕ) (i n : ℕ) : Type 0 where
+  pub makes : over d n (taken (length d - n) (drop i s) .text) ≡ t
+  pub free : n + length (taken (length d - n) (drop i s) .text) ≡ last
+  pub leaves : taken (length d - n) (drop i s) .rest ≡ rest
+
+module _ {s t rest : List ℕ} {last : ℕ} {d : List ℕ} {i n : ℕ} (g : Going s t rest last d i n) where
+  -- nothing more is taken
+  pub going-stop : {r : List ℕ} → taken (length d - n) (drop i s) ≡ stop r → (d ≡ t) × (n ≡ last) × (r ≡ rest)
+  going-stop {r} e =
+      let z = g .free in
+      let l = ap (λ (x : Taken). length (x .text)) e in
+      (sym (over-none d n) ∙ ap (λ (x : Taken). over d n (x .text)) (sym e) ∙ g .makes, omega arith, sym (ap (λ (x : Taken). x .rest) e) ∙ g .leaves)
+
+  -- x was put, and it goes on at j
+  pub going-on : (x : List ℕ) (j : ℕ) {c : List ℕ} {k : ℕ} → taken (length d - n) (drop i s) ≡ keeps x (taken (length d - n - length x) (drop j s)) → n + length x ≤ length d → c ≡ over d n x → k ≡ n + length x
+      → Going s t rest last c j k
+  going-on x j {c} {k} e f p q =
+      let l : length c ≡ length d = ap length p ∙ length-over d n x f in
+      let m : length c - k ≡ length d - n - length x = omega arith in
+      let y : List ℕ = taken (length d - n - length x) (drop j s) .text in
+      let z = taken-fits (length d - n - length x) (drop j s) in
+      let w = ap (λ (o : Taken). length (o .text)) e ∙ length-append x y in
+      let v = g .free in
+      let a = ap (λ (o : ℕ). length (taken o (drop j s) .text)) m in
+      record {
+        makes =
+            ap (λ (o : ℕ). over c k (taken o (drop j s) .text)) m
+            ∙ ap (λ (o : List ℕ). over o k y) p ∙ ap (λ (o : ℕ). over (over d n x) o y) q ∙ over-over d n x y (omega arith) ∙ ap (λ (o : Taken). over d n (o .text)) (sym e) ∙ g .makes;
+        free = omega arith;
+        leaves = ap (λ (o : ℕ). taken o (drop j s) .rest) m ∙ ap (λ (o : Taken). o .rest) (sym e) ∙ g .leaves;
+      }
+
+  -- an FF and the byte behind it
+  pub going-pair : i + 1 < length s → getD s i 0 ≡ 255 → n < length d → Going s t rest last (set d n (getD s (i + 1) 0)) (i + 2) (n + 1)
+  going-pair h e f =
+      going-on (getD s (i + 1) 0 ∷ []) (i + 2) (taken-pair (length d - n) s i (omega arith) (omega arith) e h) (omega arith) (over-sets d n (getD s (i + 1) 0 ∷ []) (omega arith)) refl
+
+  -- k plain bytes
+  pub going-run : (k : ℕ) {c : List ℕ} → k ≤ run (drop i s) → n + k ≤ length d → c ≡ over d n (take k (drop i s)) → Going s t rest last c (i + k) (n + k)
+  going-run k h f p =
+      let x : List ℕ = take k (drop i s) in
+      let l : length x ≡ k = length-take-le k (drop i s) (let w = run-within (drop i s) in omega arith) in
+      going-on x (i + k) (taken-plains (length d - n) s i k h (omega arith) ∙ ap (λ (o : ℕ). keeps x (taken (length d - n - o) (drop (i + k) s))) (sym l)) (omega arith) p (omega arith)
+
+-- at the start, and at the end: what `put_text` answers
+module _ (s d : List ℕ) (at to : ℕ) where
+  abbrev pub Taking : List ℕ → ℕ → ℕ → Type 0
+  Taking = Going s (over d to (taken (length d - to) (drop at s) .text)) (taken (length d - to) (drop at s) .rest) (to + length (taken (length d - to) (drop at s) .text))
+
+  pub going-start : Taking d at to
+  going-start = record { makes = refl; free = refl; leaves = refl }
+
+  pub going-end : {c : List ℕ} {i n : ℕ} (j : ℕ) {r : List ℕ} → Taking c i n → taken (length c - n) (drop i s) ≡ stop r → j ≡ at + (length s - at - length r)
+      → (record { next = j; to = n } ≡ ended at (length s - at) to (taken (length d - to) (drop at s))) × (c ≡ over d to (taken (length d - to) (drop at s) .text))
+  going-end {c} {i} {n} j {r} g e q =
+      let z = going-stop g e in
+      let w : j ≡ at + (length s - at - length (taken (length d - to) (drop at s) .rest)) = q ∙ ap (λ (o : List ℕ). at + (length s - at - length o)) (z .2) in
+      (ap (λ (o : ℕ). record { next = o; to = n }) w ∙ ap (λ (o : ℕ). record { next = at + (length s - at - length (taken (length d - to) (drop at s) .rest)); to = o }) (z .1), z .0)
+
+-- r is what s ends with
+abbrev Tail : List ℕ → List ℕ → Type 0
+Tail r s = (length r ≤ length s) × (drop (length s - length r) s ≡ r)
+
+tail-all : (s : List ℕ) → Tail s s
+tail-all s = let z : length s - length s ≡ 0 = omega arith in (omega arith, rw z)
+
+tail-more : (b : ℕ) (r s : List ℕ) → Tail r s → Tail r (b ∷ s)
+tail-more b r s t =
+    let h = t .0 in
+    let z : suc (length s) - length r ≡ suc (length s - length r) = omega arith in
+    (omega arith, ap (λ (n : ℕ). drop n (b ∷ s)) z ∙ t .1)
+
+both-tail : (s : List ℕ) (room : ℕ) → Tail (taken room s .rest) s × Tail (taking true room s .rest) s
+unfolding taking
+both-tail [] room = (tail-all [], tail-all [])
+both-tail (b ∷ s) room = (by (eqb b 0) (eqb room 0) (eqb b 255) (both-tail s room .1) (both-tail s (room - 1) .0), tail-more b _ s (both-tail s (room - 1) .0))
+  where
+    by : (z r f : Bool) → Tail (taking true room s .rest) s → Tail (taken (room - 1) s .rest) s → Tail (if z (stop s) (if r (stop (b ∷ s)) (if f (taking true room s) (keep b (taken (room - 1) s)))) .rest) (b ∷ s)
+    by true r f i j = tail-more b s s (tail-all s)
+    by false true f i j = tail-all (b ∷ s)
+    by false false true i j = tail-more b _ s i
+    by false false false i j = tail-more b _ s j
+
+-- what is left of the bytes from `at` on stands where it is said to start
+pub taken-left : (room : ℕ) (s : List ℕ) (at : ℕ) → drop (at + (length s - at - length (taken room (drop at s) .rest))) s ≡ taken room (drop at s) .rest
+taken-left room s at =
+    let r : List ℕ = taken room (drop at s) .rest in
+    let l = length-drop at s in
+    sym (drop-drop (length s - at - length r) at s) ∙ ap (λ (n : ℕ). drop (n - length r) (drop at s)) (sym l) ∙ both-tail (drop at s) room .0 .1
+
+-- a byte as it stands in a string
+taken-escaped : (room b : ℕ) (s : List ℕ) → 0 < room → taken room (escaped b s) ≡ keep b (taken (room - 1) s)
+unfolding taking
+taken-escaped room b s h = by (eqb b 0) refl (eqb b 255) refl
+  where
+    r : eqb room 0 ≡ false
+    r = ne-eqb room 0 (λ (z : room ≡ 0). omega arith)
+
+    by : (z : Bool) → eqb b 0 ≡ z → (f : Bool) → eqb b 255 ≡ f → taken room (escaped b s) ≡ keep b (taken (room - 1) s)
+    by true p f q = simp (p, r)
+    by false p true q = simp (p, q, r)
+    by false p false q = simp (p, q, r)
+
+taken-written : (room : ℕ) (t rest : List ℕ) → length t ≤ room → taken room (string t ++ rest) ≡ record { text = t; rest = rest }
+unfolding string taking
+taken-written room [] rest h = refl
+taken-written room (b ∷ t) rest h = ap (taken room) (escaped-append b (string t) rest) ∙ taken-escaped room b (string t ++ rest) (omega arith) ∙ ap (keep b) (taken-written (room - 1) t rest (omega arith))
+
+-- of a string that reads well and fits the text is taken, and its rest is left
+pub taken-read : (room : ℕ) (s t rest : List ℕ) → reading s ≡ Got.got t rest → length t ≤ room → taken room s ≡ record { text = t; rest = rest }
+taken-read room s t rest e h = ap (taken room) (exact s t rest e) ∙ taken-written room t rest h

@@ -1,0 +1,69 @@
+use mathlib.Core.Path.{_≡_, ap, _∙_}
+use Prim.Native.Nat.{ℕ, _+_, _-_, _≤_, min}
+use native.Mathlib.Omega.{arith}
+use lib.ListN.{drop, length-drop}
+use borrow.Author.Needs.{needs}
+use Rattle.basex_string.proofs.Runs.{run-within, run-start}
+use Rattle.basex_string.proofs.Copies.{copied-over}
+use Rattle.basex_string.proofs.put.put_run.Statement.{statement}
+use Rattle.basex_string.proofs.put.put_run.Tie as tie
+
+-- of a run of n bytes, all within `here`, k were put, and then m of those that are left
+counted : (here room most n left k m : ℕ) → most ≡ min here room → n ≤ here → k ≤ most → n ≡ k + left → m ≡ min (most - k) left → k + m ≡ min room n
+counted here room most n left k m a b d e f = omega arith
+
+sub-least : tie.Need-sub-least
+sub-least c = search needs
+
+sub-least-2 : tie.Need-sub-least-2
+sub-least-2 c = search needs
+
+least-requires : tie.Need-least-requires
+least-requires c κs = search needs
+
+put-blocks-requires : tie.Need-put-blocks-requires
+put-blocks-requires c κs = search needs
+
+add-put-singles : tie.Need-add-put-singles
+add-put-singles c = search needs
+
+add-put-singles-2 : tie.Need-add-put-singles-2
+add-put-singles-2 c = search needs
+
+sub-put-singles : tie.Need-sub-put-singles
+sub-put-singles c = search needs
+
+put-singles-requires : tie.Need-put-singles-requires
+put-singles-requires c κs = search needs
+
+add-result : tie.Need-add-result
+add-result c = search needs
+
+same-length : tie.Need-same-length
+same-length c = search needs
+
+returns : tie.Need-returns
+returns c =
+    let a = c .before .before .before .before .before .before .before .before .before .before .before .args in
+    let k = c .before .before .before .before .before .before .put-blocks in
+    let m = c .before .before .put-singles in
+    let w = run-within (drop (a .from) (a .bytes .now)) in
+    let d = length-drop (a .from) (a .bytes .now) in
+    let s = run-start (a .bytes .now) (a .from) (a .from + k .result) (omega arith) (omega (arith, k .ensures .1)) in
+    (counted _ _ _ _ _ _ _ (c .before .before .before .before .before .before .before .before .least .ensures) (omega (arith, w, d)) (k .ensures .0) (omega (arith, s)) (m .ensures .0), m .ensures .1 ∙ copied-over (a .bytes .now) (a .out .now) (a .from) (a .to) (k .result) (m .result) (k .ensures .2) (omega arith) (omega arith))
+
+pub put-run-spec : {M : Type 1} → statement M
+put-run-spec =
+    tie.close
+    (tie.spec
+    sub-least
+    sub-least-2
+    least-requires
+    put-blocks-requires
+    add-put-singles
+    add-put-singles-2
+    sub-put-singles
+    put-singles-requires
+    add-result
+    same-length
+    returns)
