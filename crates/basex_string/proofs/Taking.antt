@@ -35,7 +35,7 @@ both-fit (b ∷ s) room = (by (eqb b 0) (eqb room 0) refl (eqb b 255) (both-fit 
     by false false p true i j = let z = eqb-false room 0 p in i (omega arith)
     by false false p false i j = let z = eqb-false room 0 p in omega arith
 
-pub taken-fits : (room : ℕ) (s : List ℕ) → length (taken room s .text) ≤ room
+taken-fits : (room : ℕ) (s : List ℕ) → length (taken room s .text) ≤ room
 taken-fits room s = both-fit s room .0
 
 pub taken-end : (room : ℕ) (s : List ℕ) (i : ℕ) → length s ≤ i → taken room (drop i s) ≡ stop []
@@ -43,7 +43,7 @@ unfolding taking
 taken-end room s i h = ap (taken room) (drop-of-length-le s h)
 
 -- what is taken behind a part
-abbrev pub keeps : List ℕ → Taken → Taken
+abbrev keeps : List ℕ → Taken → Taken
 keeps x t = record { text = x ++ t .text; rest = t .rest }
 
 taken-plain : (room b : ℕ) (s : List ℕ) → 0 < room → special b ≡ false → taken room (b ∷ s) ≡ keep b (taken (room - 1) s)
@@ -90,14 +90,14 @@ module _ (room : ℕ) (s : List ℕ) (i : ℕ) (h : i < length s) where
     unfolding taking
     taken-cut k = taken-escape ∙ ap (taking true room) (drop-of-length-le s k)
 
-    pub taken-pair : i + 1 < length s → taken room (drop i s) ≡ keeps (getD s (i + 1) 0 ∷ []) (taken (room - 1) (drop (i + 2) s))
+    taken-pair : i + 1 < length s → taken room (drop i s) ≡ keeps (getD s (i + 1) 0 ∷ []) (taken (room - 1) (drop (i + 2) s))
     unfolding taking
     taken-pair k =
         let m : i + 1 + 1 ≡ i + 2 = omega arith in
         taken-escape ∙ ap (taking true room) (here s (i + 1) k ∙ ap (λ (n : ℕ). getD s (i + 1) 0 ∷ drop n s) m)
 
 -- k plain bytes
-pub taken-plains : (room : ℕ) (s : List ℕ) (i k : ℕ) → k ≤ run (drop i s) → k ≤ room → taken room (drop i s) ≡ keeps (take k (drop i s)) (taken (room - k) (drop (i + k) s))
+taken-plains : (room : ℕ) (s : List ℕ) (i k : ℕ) → k ≤ run (drop i s) → k ≤ room → taken room (drop i s) ≡ keeps (take k (drop i s)) (taken (room - k) (drop (i + k) s))
 taken-plains room s i k h f = taken-run k room (drop i s) h f ∙ ap (λ (l : List ℕ). keeps (take k (drop i s)) (taken (room - k) l)) (drop-drop k i s)
 
 -- the loop of `put_text`: what is taken from i on, put from n on, makes t of the output, which is free from `last` on then, and leaves `rest`
@@ -108,14 +108,14 @@ pub record Going (s t rest : List ℕ) (last : ℕ) (d : List ℕ) (i n : ℕ) :
 
 module _ {s t rest : List ℕ} {last : ℕ} {d : List ℕ} {i n : ℕ} (g : Going s t rest last d i n) where
   -- nothing more is taken
-  pub going-stop : {r : List ℕ} → taken (length d - n) (drop i s) ≡ stop r → (d ≡ t) × (n ≡ last) × (r ≡ rest)
+  going-stop : {r : List ℕ} → taken (length d - n) (drop i s) ≡ stop r → (d ≡ t) × (n ≡ last) × (r ≡ rest)
   going-stop {r} e =
       let z = g .free in
       let l = ap (λ (x : Taken). length (x .text)) e in
       (sym (over-none d n) ∙ ap (λ (x : Taken). over d n (x .text)) (sym e) ∙ g .makes, omega arith, sym (ap (λ (x : Taken). x .rest) e) ∙ g .leaves)
 
   -- x was put, and it goes on at j
-  pub going-on : (x : List ℕ) (j : ℕ) {c : List ℕ} {k : ℕ} → taken (length d - n) (drop i s) ≡ keeps x (taken (length d - n - length x) (drop j s)) → n + length x ≤ length d → c ≡ over d n x → k ≡ n + length x
+  going-on : (x : List ℕ) (j : ℕ) {c : List ℕ} {k : ℕ} → taken (length d - n) (drop i s) ≡ keeps x (taken (length d - n - length x) (drop j s)) → n + length x ≤ length d → c ≡ over d n x → k ≡ n + length x
       → Going s t rest last c j k
   going-on x j {c} {k} e f p q =
       let l : length c ≡ length d = ap length p ∙ length-over d n x f in

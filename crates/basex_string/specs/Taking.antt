@@ -18,7 +18,8 @@ stop rest = record { text = []; rest = rest }
 abbrev pub keep : ℕ → Taken → Taken
 keep b t = record { text = b ∷ t .text; rest = t .rest }
 
--- the bytes up to a 00, which is passed, and as many as there is room for; the byte behind an FF as it is. The first says whether an FF was read
+-- the bytes up to a 00, which is passed, and as many as there is room for; an FF stands for the byte behind it, whatever it is.
+-- The first says whether an FF was read
 unfoldable pub taking : Bool → ℕ → List ℕ → Taken
 taking e room [] = stop []
 taking true room (b ∷ s) = keep b (taking false (room - 1) s)

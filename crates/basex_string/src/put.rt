@@ -1,5 +1,5 @@
-// The text of a string, stored as it is met. Whoever wants all or nothing judges first: nothing is
-// judged here, so that no byte is looked at twice.
+// The text of a string, stored as it is met, in one pass. Nothing is judged here: whoever wants all or
+// nothing judges first, and what was judged is not judged again.
 ghost use mathlib.Core.Path.{_≡_};
 ghost use Prim.Native.Nat.{_+_, _-_, _≤_, min};
 ghost use lib.ListN.{length, take, drop};

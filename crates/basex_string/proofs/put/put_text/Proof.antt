@@ -2,7 +2,6 @@ use mathlib.Core.Path.{_≡_, refl, _∙_}
 use Prim.Native.Nat.{ℕ, _+_, _-_, _≤_, _<_, min}
 use native.Mathlib.Omega.{arith}
 use lib.ListN.{length, drop, length-drop, length-set}
-use borrow.Author.Needs.{needs}
 use Rattle.basex_string.proofs.Runs.{run-goes, run-within}
 use Rattle.basex_string.proofs.Taking.{Taking, taken-end, taken-zero, taken-full, taken-cut, going-start, going-pair, going-run, going-end}
 use Rattle.basex_string.proofs.put.put_text.Statement.{statement}
