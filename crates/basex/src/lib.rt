@@ -18,8 +18,8 @@ pub enum Reply {
     Full,
 }
 
-// First byte, number of strings, response.
-pub struct Kind(pub u8, pub usize, pub Reply);
+// First byte, number of strings, response. All of them small: the table is laid out at each use.
+pub struct Kind(pub u8, pub u8, pub Reply);
 
 // Document 01's list, COMMAND last, at the first of its first bytes.
 pub const KINDS: [Kind; 15] = [
@@ -76,7 +76,7 @@ pub fn find(first: u8) -> Found
     while i < 15 {
         let k = t[i];
         if k.0 == b {
-            let strings = k.1;
+            let strings = k.1 as usize;
             let reply = k.2;
             return Found::Known(strings, reply);
         }

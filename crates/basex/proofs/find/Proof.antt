@@ -30,8 +30,13 @@ mul-k c = omega arith
 array-copy-out-k : tie.Need-array-copy-out-k Inv-loop μ-loop
 array-copy-out-k c = omega arith
 
+cast-strings : tie.Need-cast-strings Inv-loop μ-loop
+cast-strings c = search needs
+
 returns : tie.Need-returns Inv-loop μ-loop
-returns c = let n : length (c .before .before .before .before .before .table .result) ≡ 15 = ap length (c .before .before .before .before .loop .inv .1 .0) ∙ kinds-15 in sym (c .before .before .before .before .loop .inv .1 .1 ∙ hit (c .before .before .before .before .before .before .row-byte .result) _ (c .before .before .before .before .before .table .result) (c .before .before .before .before .loop .i) (omega arith) (c .if1 .taken))
+returns c =
+    let n : length (c .before .before .before .before .before .before .table .result) ≡ 15 = ap length (c .before .before .before .before .before .loop .inv .1 .0) ∙ kinds-15 in
+    sym (c .before .before .before .before .before .loop .inv .1 .1 ∙ hit (c .before .before .before .before .before .before .before .row-byte .result) _ (c .before .before .before .before .before .before .table .result) (c .before .before .before .before .before .loop .i) (omega arith) (c .before .if1 .taken))
 
 add-i : tie.Need-add-i Inv-loop μ-loop
 add-i c = omega arith
@@ -56,6 +61,7 @@ find-spec =
     loop-holds
     mul-k
     array-copy-out-k
+    cast-strings
     returns
     add-i
     loop-less
