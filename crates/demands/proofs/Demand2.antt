@@ -5,6 +5,7 @@ use mathlib.Core.Path.{_≡_, ap, _∙_}
 use Prim.Native.Nat.{ℕ}
 use Rattle.wire.specs.Fields.{Got}
 use Rattle.sedna_read.specs.Places.{located}
+use Rattle.sedna_exact.proofs.Bounds.{bounds}
 use Rattle.sedna_exact.proofs.Exact.{exact, one-message, one-encoding, behind}
 use Rattle.sedna_exact.proofs.Lists.{options-written, options-given}
 use Rattle.sedna_exact.proofs.Meaning.{meaning-located}
@@ -42,6 +43,7 @@ sedna =
       options-given = options-given;
       read-written = read-written;
       write-read = write-read;
+      bounds = bounds;
       once = once;
     }
 

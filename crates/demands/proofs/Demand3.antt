@@ -17,7 +17,7 @@ use Rattle.session.specs.declared.Session.{Session}
 use Rattle.session.specs.Machine.{refused, next}
 use Rattle.session.specs.Step.{freshSession, Outcome, outcome, settled, versionAfter, stepped}
 use Rattle.session_exact.proofs.Follows.{Follows, fresh-follows, begins, whole-closed, Settled, settles, taken, nine}
-use Rattle.session_exact.proofs.Published.{published-sent, published-exact}
+use Rattle.session_exact.proofs.Published.{published-sent, published-exact, begun-published}
 use Rattle.demands.specs.Demand3.{Form, Offer, Done, Right, messages, Judged, answersFrom, left, step, Demand3}
 
 module _ (o : Offer) where
@@ -96,4 +96,5 @@ demand-3 = record {
       record { begun = begins i; judged = judge offers [] freshSession fresh-follows; whole = whole-closed i };
   one-layout = one-layout;
   payloads = published-exact;
+  sendable = begun-published;
 }

@@ -31,6 +31,7 @@ use Rattle.sedna_read.specs.Reading.{Answer, reading}
 use Rattle.sedna_write.specs.declared.Written.the-variants as wrote
 use Rattle.sedna_write.specs.Pairs.{given, pairsOf}
 use Rattle.sedna_write.specs.Writing.{judgement, written, left}
+use Rattle.sedna_exact.specs.Pieces.{Bounded}
 use Rattle.grammar.specs.Grammar as grammar
 use Rattle.grammar.specs.Layout.{flatRequest, flatItem}
 use Rattle.grammar.specs.Sent.{Version, from, upTo}
@@ -67,11 +68,13 @@ pub record Sedna : Type 0 where
   -- message m with n bytes is accepted exactly when the side sends it and the first n bytes are its encoding
   pub reading-exact : (side : Side) (s : List ℕ) → IsBytes s → (m : Message) (n : ℕ) → (reading side s ≡ Answer.accepted m n) ↔ (Published side m × Front s m n)
   -- one message per byte string
-  pub one-message : (side : Side) (s : List ℕ) → IsBytes s → (m m′ : Message) (n n′ : ℕ) → Published side m × Front s m n → Published side m′ × Front s m′ n′ → (m ≡ m′) × (n ≡ n′)
+  pub one-message : (side : Side) (s : List ℕ) (m m′ : Message) (n n′ : ℕ)
+      → Published side m × Front s m n → Published side m′ × Front s m′ n′ → (m ≡ m′) × (n ≡ n′)
   -- one encoding per message
   pub one-encoding : (side : Side) (s s′ : List ℕ) → IsBytes s → IsBytes s′ → (m : Message) (n n′ : ℕ) → reading side s ≡ Answer.accepted m n → reading side s′ ≡ Answer.accepted m n′ → (n ≡ n′) × (take n s ≡ take n s′)
   -- "Bytes after the message are not touched": what stands behind does not matter
-  pub behind : (side : Side) (s s′ : List ℕ) → IsBytes s → IsBytes s′ → (m : Message) (n : ℕ) → reading side s ≡ Answer.accepted m n → take n s′ ≡ take n s → reading side s′ ≡ Answer.accepted m n
+  pub behind : (side : Side) (s s′ : List ℕ) → IsBytes s → (m : Message) (n : ℕ)
+      → reading side s ≡ Answer.accepted m n → take n s′ ≡ take n s → reading side s′ ≡ Answer.accepted m n
   -- what the reader answers, by the places of the fields, means what reading answers
   pub places-hold : (side : Side) (s : List ℕ) → IsBytes s → meaning s (located (reading side s)) ≡ reading side s
   -- the option number k that is handed out is the message's, and there is none beyond
@@ -79,45 +82,52 @@ pub record Sedna : Type 0 where
       → (k : ℕ) → optionIn s (optionAt k 8 (take (n - 8) (drop 8 s))) ≡ getElem? ps k
   -- and as many are told as there are
   pub options-counted : (side : Side) (s : List ℕ) (i n : ℕ) (ps : List Pair) → reading side s ≡ Answer.accepted (message i (Body.options ps)) n → located (reading side s) ≡ told.Message i (places.Options (place 8 (n - 8)) (length ps)) n
-  -- n bytes are written exactly when a side sends m, its encoding has n bytes and they fit; by `left` they are the encoding
-  pub writing-exact : (room : ℕ) (m : Message) (n : ℕ) → (written room m ≡ wrote.Bytes n) ↔ Writable room m n
+  -- n bytes are written exactly when a side sends m, its encoding has n bytes and they fit; by `left` they are the encoding.
+  -- What a function is handed is u8, u32 and slices of bytes: `Bounded` is no condition on a caller
+  pub writing-exact : (room : ℕ) (m : Message) → Bounded (m .body) → (n : ℕ) → (written room m ≡ wrote.Bytes n) ↔ Writable room m n
   -- options, which the writer takes as three lists: lists that belong together are written as the message with those options ..
   pub options-written : (room i : ℕ) (ids lengths values : List ℕ) → given ids lengths values ≡ true
       → judgement i Options (given ids lengths values) (length (pairsBytes (pairsOf ids lengths values))) room ≡ written room (message i (Body.options (pairsOf ids lengths values)))
   -- .. and every message's options can be given so
   pub options-given : (ps : List Pair) → (ids : List ℕ) × (lengths : List ℕ) × (values : List ℕ) × (given ids lengths values ≡ true) × (pairsOf ids lengths values ≡ ps)
   -- what was written reads as the same message
-  pub read-written : (side : Side) (out : List ℕ) (m : Message) (n : ℕ) → Published side m → written (length out) m ≡ wrote.Bytes n → IsBytes (left out m (wrote.Bytes n)) → reading side (left out m (wrote.Bytes n)) ≡ Answer.accepted m n
+  pub read-written : (side : Side) (out : List ℕ) (m : Message) (n : ℕ) → Published side m
+      → written (length out) m ≡ wrote.Bytes n → reading side (left out m (wrote.Bytes n)) ≡ Answer.accepted m n
   -- writing yields the same bytes back
   pub write-read : (side : Side) (s : List ℕ) → IsBytes s → (m : Message) (n : ℕ) → reading side s ≡ Answer.accepted m n → (out : List ℕ) → n ≤ length out
       → (written (length out) m ≡ wrote.Bytes n) × (left out m (wrote.Bytes n) ≡ take n s ++ drop n out)
+  -- "read as 0 to 4,294,967,295": of a body of at most 10,240, being bytes (`Published.bytes`) says that its ints are at most 4,294,967,295,
+  -- and its other numbers and the elements of its texts below 256
+  pub bounds : (b : Body) → length (bodyBytes b) ≤ 10240 → IsBytes (bodyBytes b) ↔ Bounded b
   -- no instruction stands twice in the table
   pub once : (e e′ : Entry) → InTable e → InTable e′ → e .0 ≡ e′ .0 → e ≡ e′
 
--- "Cutting a statement or an item and joining it returns its bytes, where they fit the lent buffer."
+-- "Cutting a statement or an item and joining it returns its bytes, where they fit the lent buffer." A text is a slice of bytes, class and
+-- type are bytes: `IsBytes text` and `Bounded` are no condition on a caller
 pub record Parts : Type 0 where
   -- "Joining accepts every cutting, empty parts included", whoever made it
   pub joins : (c : Cutting) → AllAllowed (messages c) → (d : List ℕ) → Joins c d
   -- a statement: every message of its cut is one that the codec reads; in their order they are a statement's text of the grammar; there are as many as
   -- 01 says; and joined again they are the statement
-  pub statement-published : (format : ℕ) → formatAllowed format ≡ true → (text : List ℕ) → Every (Published Client) (cutStatement format text)
-  pub statement-laid-out : (format : ℕ) → formatAllowed format ≡ true → (text : List ℕ) → (q : grammar.Request) × (flatRequest q ≡ cutStatement format text)
+  pub statement-published : (format : ℕ) → formatAllowed format ≡ true → (text : List ℕ) → IsBytes text → Every (Published Client) (cutStatement format text)
+  pub statement-laid-out : (format : ℕ) → formatAllowed format ≡ true → (text : List ℕ) → IsBytes text
+      → (q : grammar.Request) × (flatRequest q ≡ cutStatement format text)
   pub statement-counted : (format : ℕ) (text : List ℕ) → length (cutStatement format text) ≡ statementParts (length text)
   pub statement-edges : (statementParts 0 ≡ 1) × ((statementParts 10234 ≡ 1) × ((statementParts 10235 ≡ 3) × (statementParts 20468 ≡ 3)))
   -- "parts of 10,234 with the rest (1 to 10,234) last, then LongQueryEnd": each part but the last is full
   pub statement-filled : (format : ℕ) (text : List ℕ) → 10234 < length text → (ms : List Message) × (cutStatement format text ≡ ms ++ (message LongQueryEnd Body.empty ∷ [])) × Filled ms
   pub statement-rejoined : (format : ℕ) → formatAllowed format ≡ true → (d text : List ℕ) → Rejoined gathering.Statement (cutStatement format text) (format ∷ []) text d
   -- an item up to 3.0, with either end behind its cut
-  pub item-published : (text : List ℕ) → Every (Published Server) (cutItem text)
-  pub item-laid-out : (v : Version) → T (upTo 3 v) → (text : List ℕ) → (i : grammar.Item v) × (flatItem i ≡ cutItem text)
+  pub item-published : (text : List ℕ) → IsBytes text → Every (Published Server) (cutItem text)
+  pub item-laid-out : (v : Version) → T (upTo 3 v) → (text : List ℕ) → IsBytes text → (i : grammar.Item v) × (flatItem i ≡ cutItem text)
   pub item-counted : (text : List ℕ) → length (cutItem text) ≡ itemPartsFrom 10235 (length text)
   pub item-filled : (text : List ℕ) → Filled (cutItem text)
   pub item-rejoined : (text : List ℕ) (e : Ending) (d : List ℕ) → Rejoined gathering.Item (cutItem text ++ (ending e ∷ [])) [] text d
   -- an item of 4.0, URL or none
-  pub typed-published : (class kind : ℕ) (url : Url) (text : List ℕ) → allowed (Body.item class kind url text) ≡ true → UrlFits url
-      → Every (Published Server) (cutTypedItem class kind url text)
-  pub typed-laid-out : (v : Version) → T (from 4 v) → (class kind : ℕ) (url : Url) (text : List ℕ) → allowed (Body.item class kind url text) ≡ true → UrlFits url
-      → (i : grammar.Item v) × (flatItem i ≡ cutTypedItem class kind url text)
+  pub typed-published : (class kind : ℕ) (url : Url) (text : List ℕ) → allowed (Body.item class kind url text) ≡ true
+      → Bounded (Body.item class kind url text) → UrlFits url → Every (Published Server) (cutTypedItem class kind url text)
+  pub typed-laid-out : (v : Version) → T (from 4 v) → (class kind : ℕ) (url : Url) (text : List ℕ) → allowed (Body.item class kind url text) ≡ true
+      → Bounded (Body.item class kind url text) → UrlFits url → (i : grammar.Item v) × (flatItem i ≡ cutTypedItem class kind url text)
   pub typed-counted : (class kind : ℕ) (url : Url) (text : List ℕ) → length (cutTypedItem class kind url text) ≡ itemPartsFrom (startRoom url) (length text)
   pub typed-filled : (class kind : ℕ) (url : Url) (text : List ℕ) → UrlFits url → Filled (cutTypedItem class kind url text)
   -- "(u above 10,227: 11)": then an ItemStart with the URL has no encoding, not even with no text, and there is no cut to count
@@ -127,7 +137,7 @@ pub record Parts : Type 0 where
       → Rejoined gathering.TypedItem (cutTypedItem class kind url text ++ (ending e ∷ [])) (class ∷ kind ∷ []) text d
   -- through bytes: part k of a cut that was written and read back, by the places that the reader tells, is the cut's message k, which is what `assembly::join` is given
   pub part-read : (side : Side) (cut : List Message) → Every (Published side) cut → (k : ℕ) (m : Message) → getElem? cut k ≡ some m → (out : List ℕ) (n : ℕ) → partWritten true true cut k (length out) ≡ wrote.Bytes n
-      → IsBytes (partLeft out (some m) (wrote.Bytes n)) → meaning (partLeft out (some m) (wrote.Bytes n)) (located (reading side (partLeft out (some m) (wrote.Bytes n)))) ≡ Answer.accepted m n
+      → meaning (partLeft out (some m) (wrote.Bytes n)) (located (reading side (partLeft out (some m) (wrote.Bytes n)))) ≡ Answer.accepted m n
 
 -- BaseX strings, requests, and responses read knowing the request
 pub record BaseX : Type 0 where

@@ -11,6 +11,7 @@ use mathlib.Core.Path.{_≡_}
 use Prim.Native.Nat.{ℕ}
 use lib.Dec.{T}
 use Rattle.wire.specs.Bytes.{IsBytes}
+use Rattle.wire.specs.Every.{Every}
 use Rattle.wire.specs.declared.Refusal.{Refusal}
 use Rattle.wire.specs.declared.Refusal.the-variants.{OutOfOrder}
 use Rattle.sedna.specs.declared.Side.{Side}
@@ -101,3 +102,5 @@ pub record Demand3 : Type 1 where
   pub one-layout : (c d : Conversation) → flat c ≡ flat d → c ≡ d
   -- the grammar's messages are the codec's: a body can be sent with an instruction exactly when some side publishes the message
   pub payloads : (k : ℕ) (b : Body) → T (published k b) ↔ ((side : Side) × Published side (message k b))
+  -- so a list that begins a conversation has no message that nobody can send
+  pub sendable : (l : List Message) → Begins l → Every (λ (m : Message). (side : Side) × Published side m) l

@@ -5,8 +5,9 @@ use mathlib.Core.Path.{_≡_, refl, sym, _∙_, ap}
 use Prim.Native.Nat.{ℕ, zero, suc, _≤_, _<_}
 use native.Mathlib.Omega.{arith}
 use lib.Dec.{T, leb}
-use lib.ListN.{length, take, drop, length-take}
+use lib.ListN.{length, take, drop, length-take, take-append-drop}
 use borrow.Author.Tests.{leb-true, leb-false}
+use Rattle.wire.specs.Bytes.{IsBytes}
 use Rattle.sedna.specs.declared.Side.{Side}
 use Rattle.sedna.specs.declared.Side.the-variants.{Client, Server}
 use Rattle.sedna.specs.Allowed.{formatAllowed, allowed}
@@ -14,11 +15,13 @@ use Rattle.sedna.specs.Message.{Url, Body, Message, message}
 use Rattle.sedna.specs.Names as M
 use Rattle.sedna.specs.Published.{Published}
 use Rattle.sedna.specs.Table.{rows, search, findOf}
+use Rattle.sedna_exact.specs.Pieces.{Bounded}
+use Rattle.sedna_exact.proofs.Bytes.{bytes-front, bytes-behind}
 use Rattle.grammar.specs.Sent.{Sent, Version, from, upTo}
 use Rattle.grammar.specs.Grammar.{plus, Request, execute, execute-long, Within, within-part, Item, parts, started}
 use Rattle.grammar.specs.Layout.{one, each, flatRequest, flatWithin, flatItem}
 use Rattle.session_exact.proofs.Published.{published-sent}
-use Rattle.fragments.specs.Cut.{statementRoom, partRoom, startRoom, pieces, cutStatement, itemParts, cutItem, cutTypedItem}
+use Rattle.fragments.specs.Cut.{statementRoom, partRoom, startRoom, piecesUpTo, pieces, cutStatement, itemParts, cutItem, cutTypedItem}
 use Rattle.wire.specs.Every.{Every}
 use Rattle.fragments.specs.Part.{pieceCount}
 use Rattle.fragments.proofs.Cuts.{cut-sole, cut-long}
@@ -40,12 +43,31 @@ module _ {A : Type 0} (P : A → Type 0) where
   every-map Q f g [] h = tt
   every-map Q f g (x ∷ l) h = (g x (h .0), every-map Q f g l (h .1))
 
--- pieces are short enough for a message
-abbrev Short : ℕ → List ℕ → Type 0
-Short m piece = length piece ≤ m
+  every-both : (Q : A → Type 0) (l : List A) → Every P l → Every Q l → Every (λ (x : A). P x × Q x) l
+  every-both Q [] h g = tt
+  every-both Q (x ∷ l) h g = ((h .0, g .0), every-both Q l (h .1) (g .1))
 
-short-pieces : (m : ℕ) (s : List ℕ) → 0 < m → Every (Short m) (pieces m s)
-short-pieces m s p = every (Short m) (pieces m s) (λ piece i. pieces-sized m s p piece i .1)
+-- parts of bytes are bytes
+taken-bytes : (n : ℕ) (s : List ℕ) → IsBytes s → IsBytes (take n s)
+taken-bytes n s h = bytes-front (take n s) (drop n s) (rw (take-append-drop n s) h)
+
+dropped-bytes : (n : ℕ) (s : List ℕ) → IsBytes s → IsBytes (drop n s)
+dropped-bytes n s h = bytes-behind (take n s) (drop n s) (rw (take-append-drop n s) h)
+
+bytes-pieces : (most m : ℕ) (s : List ℕ) → IsBytes s → Every IsBytes (piecesUpTo most m s)
+unfolding piecesUpTo
+bytes-pieces zero m s h = tt
+bytes-pieces (suc most) m [] h = tt
+bytes-pieces (suc most) m (x ∷ s) h = (taken-bytes m (x ∷ s) h, bytes-pieces most m (drop m (x ∷ s)) (dropped-bytes m (x ∷ s) h))
+
+-- pieces are short enough for a message, and bytes
+abbrev Short : ℕ → List ℕ → Type 0
+Short m piece = (length piece ≤ m) × IsBytes piece
+
+short-pieces : (m : ℕ) (s : List ℕ) → 0 < m → IsBytes s → Every (Short m) (pieces m s)
+short-pieces m s p h =
+    every-both (λ (piece : List ℕ). length piece ≤ m) IsBytes (pieces m s)
+    (every (λ (piece : List ℕ). length piece ≤ m) (pieces m s) (λ piece i. pieces-sized m s p piece i .1)) (bytes-pieces (length s) m s h)
 
 -- what is published can be sent
 abbrev sent : {side : Side} {k : ℕ} {b : Body} → Published side (message k b) → Sent k
@@ -75,23 +97,23 @@ abbrev long : ℕ → List ℕ → Message
 long format piece = message M.ExecuteLong (Body.statement format piece)
 
 module _ (format : ℕ) (ok : formatAllowed format ≡ true) where
-  can-execute : (t : List ℕ) → length t ≤ statementRoom → Published Client (message M.Execute (Body.statement format t))
+  can-execute : (t : List ℕ) → Short statementRoom t → Published Client (message M.Execute (Body.statement format t))
   unfolding findOf rows search
-  can-execute t h = statement-published M.Execute format t refl ok h
+  can-execute t h = statement-published M.Execute format t refl ok (h .0) (h .1)
 
   can-long : (t : List ℕ) → Short statementRoom t → Published Client (long format t)
   unfolding findOf rows search
-  can-long t h = statement-published M.ExecuteLong format t refl ok h
+  can-long t h = statement-published M.ExecuteLong format t refl ok (h .0) (h .1)
 
-  pub statement-cut-published : (t : List ℕ) → Every (Published Client) (cutStatement format t)
-  statement-cut-published t = by (leb (length t) statementRoom) refl
+  pub statement-cut-published : (t : List ℕ) → IsBytes t → Every (Published Client) (cutStatement format t)
+  statement-cut-published t are = by (leb (length t) statementRoom) refl
     where
       by : (b : Bool) → leb (length t) statementRoom ≡ b → Every (Published Client) (cutStatement format t)
-      by true e = let h = leb-true (length t) statementRoom e in rw (cut-sole format t h) (can-execute t h, tt)
+      by true e = let h = leb-true (length t) statementRoom e in rw (cut-sole format t h) (can-execute t (h, are), tt)
       by false e =
           rw (cut-long format t (leb-false (length t) statementRoom e))
           (every-append (Published Client) (map (long format) (pieces statementRoom t)) (message M.LongQueryEnd Body.empty ∷ [])
-          (every-map (Short statementRoom) (Published Client) (long format) can-long (pieces statementRoom t) (short-pieces statementRoom t (omega arith)))
+          (every-map (Short statementRoom) (Published Client) (long format) can-long (pieces statementRoom t) (short-pieces statementRoom t (omega arith) are))
           (end-published, tt))
 
   -- a text longer than one message has a first piece
@@ -106,39 +128,57 @@ module _ (format : ℕ) (ok : formatAllowed format ≡ true) where
       )
 
   -- the cut's messages in order are a statement's text of the grammar
-  pub statement-cut-request : (t : List ℕ) → (q : Request) × (flatRequest q ≡ cutStatement format t)
-  statement-cut-request t = by (leb (length t) statementRoom) refl
+  pub statement-cut-request : (t : List ℕ) → IsBytes t → (q : Request) × (flatRequest q ≡ cutStatement format t)
+  statement-cut-request t are = by (leb (length t) statementRoom) refl
     where
       by : (b : Bool) → leb (length t) statementRoom ≡ b → (q : Request) × (flatRequest q ≡ cutStatement format t)
-      by true e = let h = leb-true (length t) statementRoom e in (execute (sent (can-execute t h)), sym (cut-sole format t h))
+      by true e = let h = leb-true (length t) statementRoom e in (execute (sent (can-execute t (h, are))), sym (cut-sole format t h))
       by false e =
           let h = leb-false (length t) statementRoom e in
-          let r = long-request (pieces statementRoom t) (short-pieces statementRoom t (omega arith)) (some-piece t (omega (arith, h))) in
+          let r = long-request (pieces statementRoom t) (short-pieces statementRoom t (omega arith) are) (some-piece t (omega (arith, h))) in
           (r .0, r .1 ∙ sym (cut-long format t h))
 
 -- items
 can-part : (t : List ℕ) → Short partRoom t → Published Server (message M.ItemPart (Body.text t))
-can-part t h = part-published t h
+can-part t h = part-published t (h .0) (h .1)
 
-parts-published : (t : List ℕ) → Every (Published Server) (itemParts t)
-parts-published t =
-    every-map (Short partRoom) (Published Server) (λ (piece : List ℕ). message M.ItemPart (Body.text piece)) can-part (pieces partRoom t) (short-pieces partRoom t (omega arith))
+parts-published : (t : List ℕ) → IsBytes t → Every (Published Server) (itemParts t)
+parts-published t are =
+    every-map (Short partRoom) (Published Server) (λ (piece : List ℕ). message M.ItemPart (Body.text piece)) can-part (pieces partRoom t) (short-pieces partRoom t (omega arith) are)
 
-taken-short : (n : ℕ) (t : List ℕ) → length (take n t) ≤ n
-taken-short n t = omega (arith, length-take n t)
+taken-short : (n : ℕ) (t : List ℕ) → IsBytes t → Short n (take n t)
+taken-short n t are = (omega (arith, length-take n t), taken-bytes n t are)
 
-pub item-cut-published : (t : List ℕ) → Every (Published Server) (cutItem t)
+pub item-cut-published : (t : List ℕ) → IsBytes t → Every (Published Server) (cutItem t)
 unfolding cutItem
-item-cut-published t = (can-part (take partRoom t) (taken-short partRoom t), parts-published (drop partRoom t))
+item-cut-published t are = (can-part (take partRoom t) (taken-short partRoom t are), parts-published (drop partRoom t) (dropped-bytes partRoom t are))
 
 start-allowed : (class kind : ℕ) (url : Url) (t u : List ℕ) → allowed (Body.item class kind url t) ≡ true → allowed (Body.item class kind url u) ≡ true
 unfolding allowed
 start-allowed class kind url t u ok = ok
 
-pub typed-item-cut-published : (class kind : ℕ) (url : Url) (t : List ℕ) → allowed (Body.item class kind url t) ≡ true → UrlFits url → Every (Published Server) (cutTypedItem class kind url t)
+-- an item's text is bytes, and its values are in bounds with another text of bytes
+text-bytes : (class kind : ℕ) (url : Url) (t : List ℕ) → Bounded (Body.item class kind url t) → IsBytes t
+text-bytes class kind Url.absent t h = h .1 .1 .1 .0
+text-bytes class kind (Url.present url) t h = h .1 .1 .1 .1 .0
+
+start-bounded : (class kind : ℕ) (url : Url) (t u : List ℕ) → Bounded (Body.item class kind url t) → IsBytes u → Bounded (Body.item class kind url u)
+start-bounded class kind Url.absent t u h g = (h .0, (h .1 .0, (h .1 .1 .0, (g, tt))))
+start-bounded class kind (Url.present url) t u h g = (h .0, (h .1 .0, (h .1 .1 .0, (h .1 .1 .1 .0, (g, tt)))))
+
+-- the first message of an item of 4.0
+can-start : (class kind : ℕ) (url : Url) (t : List ℕ) → allowed (Body.item class kind url t) ≡ true → Bounded (Body.item class kind url t) → UrlFits url
+    → Published Server (message M.ItemStart (Body.item class kind url (take (startRoom url) t)))
+can-start class kind url t ok are fits =
+    let front = take (startRoom url) t in
+    let short = taken-short (startRoom url) t (text-bytes class kind url t are) in
+    start-published class kind url front (start-allowed class kind url t front ok) fits (short .0) (start-bounded class kind url t front are (short .1))
+
+pub typed-item-cut-published : (class kind : ℕ) (url : Url) (t : List ℕ) → allowed (Body.item class kind url t) ≡ true → Bounded (Body.item class kind url t) → UrlFits url
+    → Every (Published Server) (cutTypedItem class kind url t)
 unfolding cutTypedItem
-typed-item-cut-published class kind url t ok fits =
-    (start-published class kind url (take (startRoom url) t) (start-allowed class kind url t (take (startRoom url) t) ok) fits (taken-short (startRoom url) t), parts-published (drop (startRoom url) t))
+typed-item-cut-published class kind url t ok are fits =
+    (can-start class kind url t ok are fits, parts-published (drop (startRoom url) t) (dropped-bytes (startRoom url) t (text-bytes class kind url t are)))
 
 -- ItemParts behind an item's first message
 within : (v : Version) (l : List (List ℕ)) → Every (Short partRoom) l → (w : List (Within v)) × (each flatWithin w ≡ map (λ (piece : List ℕ). message M.ItemPart (Body.text piece)) l)
@@ -148,18 +188,18 @@ within v (piece ∷ l) h =
     (within-part (sent (can-part piece (h .0))) ∷ rest .0, ap (λ (r : List Message). message M.ItemPart (Body.text piece) ∷ r) (rest .1))
 
 -- the cut's messages in order are an item of the grammar
-pub item-cut-item : (v : Version) → T (upTo 3 v) → (t : List ℕ) → (i : Item v) × (flatItem i ≡ cutItem t)
+pub item-cut-item : (v : Version) → T (upTo 3 v) → (t : List ℕ) → IsBytes t → (i : Item v) × (flatItem i ≡ cutItem t)
 unfolding cutItem
-item-cut-item v g t =
-    let rest = within v (pieces partRoom (drop partRoom t)) (short-pieces partRoom (drop partRoom t) (omega arith)) in
+item-cut-item v g t are =
+    let rest = within v (pieces partRoom (drop partRoom t)) (short-pieces partRoom (drop partRoom t) (omega arith) (dropped-bytes partRoom t are)) in
     let first = message M.ItemPart (Body.text (take partRoom t)) in
-    (parts g (sent (can-part (take partRoom t) (taken-short partRoom t))) (rest .0), ap (λ (r : List Message). first ∷ r) (rest .1))
+    (parts g (sent (can-part (take partRoom t) (taken-short partRoom t are))) (rest .0), ap (λ (r : List Message). first ∷ r) (rest .1))
 
-pub typed-item-cut-item : (v : Version) → T (from 4 v) → (class kind : ℕ) (url : Url) (t : List ℕ) → allowed (Body.item class kind url t) ≡ true → UrlFits url
+pub typed-item-cut-item : (v : Version) → T (from 4 v) → (class kind : ℕ) (url : Url) (t : List ℕ) → allowed (Body.item class kind url t) ≡ true → Bounded (Body.item class kind url t) → UrlFits url
     → (i : Item v) × (flatItem i ≡ cutTypedItem class kind url t)
 unfolding cutTypedItem
-typed-item-cut-item v g class kind url t ok fits =
-    let rest = within v (pieces partRoom (drop (startRoom url) t)) (short-pieces partRoom (drop (startRoom url) t) (omega arith)) in
-    let front = take (startRoom url) t in
-    let first = message M.ItemStart (Body.item class kind url front) in
-    (started g (sent (start-published class kind url front (start-allowed class kind url t front ok) fits (taken-short (startRoom url) t))) (rest .0), ap (λ (r : List Message). first ∷ r) (rest .1))
+typed-item-cut-item v g class kind url t ok are fits =
+    let behind : IsBytes (drop (startRoom url) t) = dropped-bytes (startRoom url) t (text-bytes class kind url t are) in
+    let rest = within v (pieces partRoom (drop (startRoom url) t)) (short-pieces partRoom (drop (startRoom url) t) (omega arith) behind) in
+    let first = message M.ItemStart (Body.item class kind url (take (startRoom url) t)) in
+    (started g (sent (can-start class kind url t ok are fits)) (rest .0), ap (λ (r : List Message). first ∷ r) (rest .1))

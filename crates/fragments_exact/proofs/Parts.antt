@@ -8,7 +8,7 @@ use native.Mathlib.Omega.{arith}
 use lib.Dec.{ltb}
 use lib.ListN.{length, getElem?}
 use borrow.Author.Tests.{ltb-true, ltb-false}
-use Rattle.wire.specs.Bytes.{IsBytes, if}
+use Rattle.wire.specs.Bytes.{if}
 use Rattle.wire.specs.Every.{Every}
 use Rattle.wire.specs.declared.Refusal.the-variants.{NoSuchPart, NoRoom}
 use Rattle.sedna.specs.declared.Side.{Side}
@@ -22,9 +22,9 @@ use Rattle.sedna_write.specs.declared.Written.the-variants.{Bytes, Refused}
 use Rattle.sedna_write.specs.Writing.{written, left}
 use Rattle.sedna_exact.specs.Unwritten.{Unwritten}
 use Rattle.sedna_exact.proofs.Branches.{apart}
-use Rattle.sedna_exact.proofs.Meaning.{meaning-located}
+use Rattle.sedna_exact.proofs.Meaning.{accepted-means}
 use Rattle.sedna_exact.proofs.Unwritten.{unwritten-exact}
-use Rattle.sedna_exact.proofs.Written.{written-exact, read-written}
+use Rattle.sedna_exact.proofs.Written.{written-forth, front-written, read-written}
 use Rattle.fragments.specs.Part.{writtenOf, partWritten, partLeft}
 
 -- beyond the last there is none
@@ -50,8 +50,8 @@ published-written : (side : Side) (m : Message) (room : ℕ) → Published side 
 published-written side m room p = by (ltb room (length (encode m))) refl
   where
     by : (t : Bool) → ltb room (length (encode m)) ≡ t → written room m ≡ if t (Refused NoRoom) (Bytes (length (encode m)))
-    by true e = unwritten-exact room m NoRoom .1 (Unwritten.no-room side p (ltb-true room (length (encode m)) e))
-    by false e = written-exact room m (length (encode m)) .1 (record { side = side; published = p; count = refl; fits = ltb-false room (length (encode m)) e })
+    by true e = unwritten-exact room m NoRoom .1 (Unwritten.no-room side (p .listed) (p .values) (p .short) (ltb-true room (length (encode m)) e))
+    by false e = written-forth room m (length (encode m)) (record { side = side; published = p; count = refl; fits = ltb-false room (length (encode m)) e })
 
 -- ".., 14, 10": any other part is written, or there is no room
 pub part-there : (side : Side) (cut : List Message) → Every (Published side) cut → (k room : ℕ) (m : Message) → getElem? cut k ≡ some m
@@ -60,6 +60,9 @@ part-there side cut h k room m e = ap (writtenOf room) e ∙ published-written s
 
 -- a part that was written is read again, by its places too, as the message that it is
 pub part-read : (side : Side) (cut : List Message) → Every (Published side) cut → (k : ℕ) (m : Message) → getElem? cut k ≡ some m → (out : List ℕ) (n : ℕ) → partWritten true true cut k (length out) ≡ Bytes n
-    → IsBytes (partLeft out (some m) (Bytes n)) → meaning (partLeft out (some m) (Bytes n)) (located (reading side (partLeft out (some m) (Bytes n)))) ≡ Answer.accepted m n
-part-read side cut h k m e out n w b =
-    meaning-located side (left out m (Bytes n)) b ∙ read-written side out m n (at (Published side) cut k m h e) (sym (ap (writtenOf (length out)) e) ∙ w) b
+    → meaning (partLeft out (some m) (Bytes n)) (located (reading side (partLeft out (some m) (Bytes n)))) ≡ Answer.accepted m n
+part-read side cut h k m e out n w =
+    let p : Published side m = at (Published side) cut k m h e in
+    let wrote : written (length out) m ≡ Bytes n = sym (ap (writtenOf (length out)) e) ∙ w in
+    let s : List ℕ = left out m (Bytes n) in
+    ap (λ (a : Answer). meaning s (located a)) (read-written side out m n p wrote) ∙ accepted-means side s m n p (front-written side out m n p wrote)

@@ -1,5 +1,5 @@
 -- What was encoded is accepted, and what is accepted is published and stands there encoded.
-use mathlib.Core.Path.{_≡_, refl, sym, ap, subst₂, _∙_}
+use mathlib.Core.Path.{_≡_, refl, sym, ap, subst, subst₂, _∙_}
 use mathlib.Core.List.{List, [], _++_, append-nil}
 use Prim.Native.Nat.{ℕ, _+_, _≤_}
 use native.Mathlib.Omega.{arith}
@@ -17,16 +17,17 @@ use Rattle.wire.specs.Fields.{Got}
 use Rattle.sedna_read.specs.Reading.{Heading, Answer, bodyField, heading, answered, afterHead, reading}
 use Rattle.sedna_exact.specs.Due.{Head}
 use Rattle.sedna_exact.proofs.Branches.{apart, either}
-use Rattle.sedna_exact.proofs.Bytes.{bytes-front, bytes-behind, bytes-part, int-small, int-written}
+use Rattle.sedna_exact.proofs.Bytes.{bytes-part, int-written}
 use Rattle.sedna_exact.proofs.Bodies.{Read, body-forth, body-back}
 use Rattle.sedna_exact.proofs.Heads.{head-forth, head-back, head-bytes}
+use Rattle.sedna_exact.proofs.Table.{listed-small}
 
-module _ (side : Side) (m : Message) (rest : List ℕ) (h : IsBytes (encode m ++ rest)) (p : Published side m) where
+module _ (side : Side) (m : Message) (rest : List ℕ) (p : Published side m) where
   encoded-instruction : intAt (encode m ++ rest) 0 ≡ m .instruction
   unfolding encode int
   encoded-instruction =
       let behind : List ℕ = int (length (bodyBytes (m .body))) ++ (bodyBytes (m .body) ++ rest) in
-      int-written [] (m .instruction) behind (int-small (m .instruction) behind h)
+      int-written [] (m .instruction) behind (omega (arith, listed-small (m .instruction, side, shapeOf (m .body)) (p .listed)))
 
   encoded-head : Head side (encode m ++ rest) (shapeOf (m .body)) (length (bodyBytes (m .body)))
   unfolding encode int
@@ -48,9 +49,8 @@ module _ (side : Side) (m : Message) (rest : List ℕ) (h : IsBytes (encode m ++
       let k : ℕ = length body in
       let long : length (body ++ rest) ≡ k + length rest = length-append body rest in
       let count : 8 + k ≡ length (encode m) = omega arith in
-      let body-is : IsBytes body = bytes-front body rest (bytes-behind (take 8 s) (body ++ rest) h) in
       ap (afterHead s) (head-forth side s (shapeOf (m .body)) k encoded-head)
-      ∙ rw (le-ltb (length s) (8 + k) (omega arith), encoded-instruction, take-append-seam body rest, body-forth (m .body) (p .values) body-is, count)
+      ∙ rw (le-ltb (length s) (8 + k) (omega arith), encoded-instruction, take-append-seam body rest, body-forth (m .body) (p .values) (p .bytes), count)
 
 -- a head was taken, and a body after it
 module _ (side : Side) (s : List ℕ) (h : IsBytes s) (of : Shape) (k : ℕ) (head : Head side s of k) (fits : 8 + k ≤ length s) (b : Body) (body : Read of (take k (drop 8 s)) b []) where
@@ -73,7 +73,7 @@ module _ (side : Side) (s : List ℕ) (h : IsBytes s) (of : Shape) (k : ℕ) (he
   published =
       let m : Message = message (intAt s 0) b in
       let count : 8 + k ≡ length (encode m) = omega (arith, body-length) in (
-        record { listed = rw (body .shape) (head .listed); values = body .values; short = omega (arith, body-length, head .short) },
+        record { listed = rw (body .shape) (head .listed); values = body .values; short = omega (arith, body-length, head .short); bytes = subst IsBytes body-there (bytes-part s 8 k h) },
         record { count = count; bytes = ap (take (8 + k)) stands ∙ take-at (encode m) (drop k (drop 8 s)) (8 + k) (sym count) },
       )
 

@@ -7,13 +7,15 @@ use lib.ListN.{length, drop}
 use lib.Seq.{take-append-seam}
 use Rattle.wire.specs.Bytes.{IsBytes, int}
 use Rattle.sedna.specs.declared.Side.{Side}
-use Rattle.sedna.specs.Message.{Url, Body}
+use Rattle.sedna.specs.Message.{Url, Body, Message}
+use Rattle.sedna.specs.Published.{Published, Front}
 use Rattle.sedna.specs.Encode.{string, urlBytes, pairsBytes, bodyBytes}
 use Rattle.sedna_read.specs.Reading.{Answer, reading}
 use Rattle.sedna_read.specs.Places.{placesOf, located}
 use Rattle.sedna_read.specs.Meaning.{bodyIn, meaning}
+use Rattle.sedna_exact.proofs.Exact.{exact}
 use Rattle.sedna_exact.proofs.Pairs.{pairs-forth}
-use Rattle.sedna_exact.proofs.Parts.{string-behind, body-stands}
+use Rattle.sedna_exact.proofs.Parts.{string-behind, body-front}
 
 -- a body that stands behind `at` bytes is what its places hold
 body-places : (s : List ℕ) (at : ℕ) (b : Body) (rest : List ℕ) → IsBytes (bodyBytes b) → drop at s ≡ bodyBytes b ++ rest → bodyIn s (placesOf at (length (bodyBytes b)) b) ≡ b
@@ -36,12 +38,16 @@ body-places s at (Body.item class kind (Url.present url) part) rest h e =
       string-behind s at (class ∷ kind ∷ 1 ∷ string url) part rest (at + 2 + 6 + length url + 5) (rw append-assoc at e) (omega arith),
     )
 
+-- where a published message stands in front, its places mean it, whatever stands behind it
+pub accepted-means : (side : Side) (s : List ℕ) (m : Message) (n : ℕ) → Published side m → Front s m n → meaning s (located (Answer.accepted m n)) ≡ Answer.accepted m n
+accepted-means side s m n p f =
+    let there = body-front side s m n p f in
+    rw (there .size, body-places s 8 (m .body) (drop n s) (there .bytes) (there .split))
+
 -- the reader's answer, by its places, means what reading answers
 pub meaning-located : (side : Side) (s : List ℕ) → IsBytes s → meaning s (located (reading side s)) ≡ reading side s
 meaning-located side s h = by (reading side s) refl
   where
     by : (a : Answer) → reading side s ≡ a → meaning s (located a) ≡ a
     by (Answer.refused r) e = refl
-    by (Answer.accepted m n) e =
-        let there = body-stands side s h m n e in
-        rw (there .size, body-places s 8 (m .body) (drop n s) (there .bytes) (there .split))
+    by (Answer.accepted m n) e = let p = exact side s h m n .0 e in accepted-means side s m n (p .0) (p .1)

@@ -7,10 +7,10 @@ use lib.ListN.{length, take, drop}
 use lib.Seq.{take-append-seam, drop-append-add, drop-drop}
 use Rattle.wire.specs.Bytes.{IsBytes, int}
 use Rattle.sedna.specs.declared.Side.{Side}
+use Rattle.sedna.specs.Published.{Published, Front}
 use Rattle.sedna.specs.Message.{Message}
 use Rattle.sedna.specs.Encode.{string, bodyBytes, encode}
 use Rattle.sedna_read.specs.Reading.{Answer, reading}
-use Rattle.sedna_exact.proofs.Bytes.{bytes-part}
 use Rattle.sedna_exact.proofs.Exact.{exact, front-split}
 
 -- where u and v stand behind `at` bytes, v without its first j bytes stands behind u and j more
@@ -28,10 +28,9 @@ pub record BodyStands (s : List ℕ) (m : Message) (n : ℕ) : Type 0 where
   pub size : n - 8 ≡ length (bodyBytes (m .body))
   pub bytes : IsBytes (bodyBytes (m .body))
 
-pub body-stands : (side : Side) (s : List ℕ) → IsBytes s → (m : Message) (n : ℕ) → reading side s ≡ Answer.accepted m n → BodyStands s m n
+pub body-front : (side : Side) (s : List ℕ) (m : Message) (n : ℕ) → Published side m → Front s m n → BodyStands s m n
 unfolding encode int
-body-stands side s h m n e =
-    let f = exact side s h m n .0 e .1 in
-    let body : List ℕ = bodyBytes (m .body) in
-    let split : drop 8 s ≡ body ++ drop n s = ap (drop 8) (front-split f) in
-    record { split = split; size = omega (arith, f .count); bytes = rw (split, take-append-seam body (drop n s)) at (bytes-part s 8 (length body) h) }
+body-front side s m n p f = record { split = ap (drop 8) (front-split f); size = omega (arith, f .count); bytes = p .bytes }
+
+pub body-stands : (side : Side) (s : List ℕ) → IsBytes s → (m : Message) (n : ℕ) → reading side s ≡ Answer.accepted m n → BodyStands s m n
+body-stands side s h m n e = let p = exact side s h m n .0 e in body-front side s m n (p .0) (p .1)

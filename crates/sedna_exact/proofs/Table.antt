@@ -1,18 +1,20 @@
 -- Finding an instruction in the table is exact: no instruction stands there twice.
 use mathlib.Core.Path.{_≡_, refl, sym, ap, _∙_}
 use mathlib.Core.List.{List, [], _∷_, map}
+use mathlib.Core.Bool.{Bool, true, false}
 use Prim.Native.Nat.{ℕ, zero, suc, _<_}
 use native.Mathlib.Omega.{arith}
-use lib.Dec.{eqb}
+use lib.Dec.{eqb, ltb}
 use lib.ListN.{length, getD, length-map, List·getD-map}
-use borrow.Author.Tests.{eqb-true}
+use borrow.Author.Tests.{eqb-true, ltb-true}
+use Rattle.wire.specs.Bytes.{if}
 use Rattle.sedna.specs.declared.Side.{Side}
 use Rattle.sedna.specs.declared.Shape.{Shape}
 use Rattle.sedna.specs.declared.Entry.{Entry}
 use Rattle.sedna.specs.declared.Found.{Found}
 use Rattle.sedna.specs.declared.Found.the-variants.{Known}
 use Rattle.sedna.specs.Table.{rows, InTable, search, findOf}
-use Rattle.sedna_exact.proofs.Branches.{apart, either}
+use Rattle.sedna_exact.proofs.Branches.{apart, either, both}
 
 -- what the table says of an entry's instruction, and what the entry says
 abbrev finding : Entry → Found
@@ -50,6 +52,24 @@ once e e′ t t′ p =
     let sides : e .1 ≡ e′ .1 = cc in
     let shapes : e .2 ≡ e′ .2 = cc in
     λ i. (p i, sides i, shapes i)
+
+-- the test of the whole table: its instructions are small
+smalls : List Entry → Bool
+smalls [] = true
+smalls (e ∷ es) = if (ltb (e .0) 1000) (smalls es) false
+
+all-small : smalls rows ≡ true
+unfolding rows smalls
+all-small = refl
+
+small-at : (es : List Entry) (i : ℕ) (e : Entry) → smalls es ≡ true → i < length es → getD es i e .0 < 1000
+unfolding smalls
+small-at [] i e s h = absurd (omega arith)
+small-at (x ∷ es) zero e s h = ltb-true (x .0) 1000 (both (ltb (x .0) 1000) (smalls es) .0 s .0)
+small-at (x ∷ es) (suc i) e s h = small-at es i e (both (ltb (x .0) 1000) (smalls es) .0 s .1) (omega arith)
+
+pub listed-small : (e : Entry) → InTable e → e .0 < 1000
+listed-small e (i, h, there) = rw there at (small-at rows i e all-small h)
 
 search-finds : (k : ℕ) (es : List Entry) (a : Side) (b : Shape) → search k es ≡ Known a b → (j : ℕ) × (j < length es) × (getD es j (k, a, b) ≡ (k, a, b))
 unfolding search

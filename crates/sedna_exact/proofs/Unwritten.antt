@@ -53,7 +53,7 @@ module _ (room : ℕ) (m : Message) where
           (λ short e₃. either (ltb room (8 + k)) _ _ e₃
           (λ cut e₄.
           let less : room < 8 + k = ltb-true room (8 + k) cut in
-          so e₄ (Unwritten.no-room sender (record { listed = there; values = ok; short = ltb-false 10240 k short }) (omega (arith, encode-length m))))
+          so e₄ (Unwritten.no-room sender there ok (ltb-false 10240 k short) (omega (arith, encode-length m))))
           (λ _ e₄. apart (cc))))
           (λ bad e₂. so e₂ (Unwritten.value (m .instruction, sender, own) listed refl λ both. apart (let z : true ≡ false = sym (both .1) ∙ bad in cc))))
           (λ other e₁. so e₁ (Unwritten.value (m .instruction, sender, own) listed refl λ both. apart (let z : true ≡ false = sym (shape-itself own) ∙ ap (sameShape own) (both .0) ∙ other in cc)))
@@ -72,9 +72,9 @@ module _ (room : ℕ) (m : Message) where
   refused-forth (Unwritten.value e listed same unfit) = not-so (e .2) unfit (findOf (m .instruction)) (e .1) (ap findOf (sym same) ∙ find-listed e listed)
   refused-forth (Unwritten.too-long side listed ok long) =
       rw (find-listed (m .instruction, side, shapeOf (m .body)) listed, shape-itself (shapeOf (m .body)), ok, lt-ltb 10240 k long)
-  refused-forth (Unwritten.no-room side p less) =
+  refused-forth (Unwritten.no-room side listed ok short less) =
       let cut : room < 8 + k = omega (arith, less, encode-length m) in
-      rw (find-listed (m .instruction, side, shapeOf (m .body)) (p .listed), shape-itself (shapeOf (m .body)), p .values, le-ltb 10240 k (p .short), lt-ltb room (8 + k) cut)
+      rw (find-listed (m .instruction, side, shapeOf (m .body)) listed, shape-itself (shapeOf (m .body)), ok, le-ltb 10240 k short, lt-ltb room (8 + k) cut)
 
 -- demand 1, writing: a refusal is given exactly when it is due
 pub unwritten-exact : (room : ℕ) (m : Message) (r : Refusal) → (written room m ≡ Refused r) ↔ Unwritten room m r

@@ -7,6 +7,7 @@ use Prim.Native.Nat.{ℕ, _+_, _≤_}
 use native.Mathlib.Omega.{arith}
 use lib.Dec.{ltb}
 use lib.ListN.{length, take, drop, getD}
+use lib.Seq.{take-at}
 use borrow.Author.Tests.{le-ltb, ltb-false, eqb-true, eq-eqb}
 use Rattle.wire.specs.Bytes.{IsBytes, if, int}
 use Rattle.sedna.specs.declared.Side.{Side}
@@ -19,14 +20,16 @@ use Rattle.sedna.specs.Allowed.{allowed}
 use Rattle.sedna.specs.Encode.{bodyBytes, encode}
 use Rattle.sedna.specs.Kinds.{shapeNumber, sameShape}
 use Rattle.sedna.specs.Message.{Message, shapeOf}
-use Rattle.sedna.specs.Published.{Published, Writable}
+use Rattle.sedna.specs.Published.{Published, Front, Writable}
 use Rattle.sedna.specs.Table.{findOf, fitOf}
 use Rattle.sedna_read.specs.Reading.{Answer, reading}
 use Rattle.sedna_write.specs.declared.Written.{Written}
 use Rattle.sedna_write.specs.declared.Written.the-variants.{Bytes}
 use Rattle.sedna_write.specs.Writing.{judgedAs, judgement, written, left}
+use Rattle.sedna_exact.specs.Pieces.{Bounded}
 use Rattle.sedna_exact.proofs.Branches.{apart, either}
-use Rattle.sedna_exact.proofs.Exact.{exact, read-encoded}
+use Rattle.sedna_exact.proofs.Bounds.{bounds}
+use Rattle.sedna_exact.proofs.Exact.{exact, published-accepted}
 use Rattle.sedna_exact.proofs.Table.{find-listed, listed-find}
 
 -- the shape of a number: shapes with one number are one
@@ -55,9 +58,9 @@ pub fitted : {P : Type 0} (t ok : Bool) (n room : ℕ) {w : Written} → judgedA
 fitted true ok n room e same other = same refl e
 fitted false ok n room e same other = other refl e
 
-written-back : (room : ℕ) (m : Message) (n : ℕ) → written room m ≡ Bytes n → Writable room m n
+written-back : (room : ℕ) (m : Message) → Bounded (m .body) → (n : ℕ) → written room m ≡ Bytes n → Writable room m n
 unfolding judgement
-written-back room m n e = by (findOf (m .instruction)) refl e
+written-back room m h n e = by (findOf (m .instruction)) refl e
   where
     k : ℕ
     k = length (bodyBytes (m .body))
@@ -74,14 +77,14 @@ written-back room m n e = by (findOf (m .instruction)) refl e
         let room-fits : 8 + k ≤ room = ltb-false room (8 + k) fits in
         record {
           side = sender;
-          published = record { listed = rw (← shape) (listed-find (m .instruction) sender own found); values = ok; short = ltb-false 10240 k short };
+          published = record { listed = rw (← shape) (listed-find (m .instruction) sender own found); values = ok; short = ltb-false 10240 k short; bytes = bounds (m .body) (ltb-false 10240 k short) .1 h };
           count = sym count ∙ sym (encode-length m);
           fits = omega arith;
         })
         (λ _ q. apart (cc)))
         (λ _ q. apart (cc))
 
-written-forth : (room : ℕ) (m : Message) (n : ℕ) → Writable room m n → written room m ≡ Bytes n
+pub written-forth : (room : ℕ) (m : Message) (n : ℕ) → Writable room m n → written room m ≡ Bytes n
 unfolding judgement
 written-forth room m n w =
     let k : ℕ = length (bodyBytes (m .body)) in
@@ -92,12 +95,18 @@ written-forth room m n w =
     rw (found, eq-eqb (shapeNumber (shapeOf (m .body))) _ refl, w .published .values, le-ltb 10240 k (w .published .short), le-ltb room (8 + k) f) (ap Bytes (sym c))
 
 -- demand 2, writing: n bytes are written exactly when a side sends m, its encoding has n bytes and they fit
-pub written-exact : (room : ℕ) (m : Message) (n : ℕ) → (written room m ≡ Bytes n) ↔ Writable room m n
-written-exact room m n = (written-back room m n, written-forth room m n)
+pub written-exact : (room : ℕ) (m : Message) → Bounded (m .body) → (n : ℕ) → (written room m ≡ Bytes n) ↔ Writable room m n
+written-exact room m h n = (written-back room m h n, written-forth room m n)
 
--- what was written is read again as the same message
-pub read-written : (side : Side) (out : List ℕ) (m : Message) (n : ℕ) → Published side m → written (length out) m ≡ Bytes n → IsBytes (left out m (Bytes n)) → reading side (left out m (Bytes n)) ≡ Answer.accepted m n
-read-written side out m n p e h = read-encoded side m (drop n out) h p ∙ ap (Answer.accepted m) (sym (written-back (length out) m n e .count))
+-- what was written stands in front of what was there behind it ..
+pub front-written : (side : Side) (out : List ℕ) (m : Message) (n : ℕ) → Published side m → written (length out) m ≡ Bytes n → Front (left out m (Bytes n)) m n
+front-written side out m n p e =
+    let count : n ≡ length (encode m) = written-back (length out) m (bounds (m .body) (p .short) .0 (p .bytes)) n e .count in
+    record { count = count; bytes = take-at (encode m) (drop n out) n (sym count) }
+
+-- .. and is read again as the same message
+pub read-written : (side : Side) (out : List ℕ) (m : Message) (n : ℕ) → Published side m → written (length out) m ≡ Bytes n → reading side (left out m (Bytes n)) ≡ Answer.accepted m n
+read-written side out m n p e = published-accepted side (left out m (Bytes n)) m n p (front-written side out m n p e)
 
 -- what was read is written as the bytes that were read
 pub write-read : (side : Side) (s : List ℕ) → IsBytes s → (m : Message) (n : ℕ) → reading side s ≡ Answer.accepted m n → (out : List ℕ) → n ≤ length out

@@ -2,8 +2,9 @@
 use mathlib.Core.Bool.{true}
 use mathlib.Core.List.{List, [], _∷_, _++_}
 use mathlib.Core.Path.{_≡_}
-use Prim.Native.Nat.{ℕ}
-use Rattle.wire.specs.Bytes.{int}
+use Prim.Native.Nat.{ℕ, _<_, _≤_}
+use Rattle.wire.specs.Bytes.{IsBytes, int}
+use Rattle.wire.specs.Every.{Every}
 use Rattle.wire.specs.declared.Refusal.{Refusal}
 use Rattle.wire.specs.declared.Refusal.the-variants.{StringFormat, ValueNotAllowed}
 use Rattle.sedna.specs.declared.Shape.{Shape}
@@ -49,6 +50,17 @@ piecesOf (Body.statement format t) = Piece.byte format ∷ Piece.text t ∷ []
 piecesOf (Body.coded code t) = Piece.number code ∷ Piece.text t ∷ []
 piecesOf (Body.options pairs) = pairPieces pairs
 piecesOf (Body.item class kind url part) = Piece.byte class ∷ Piece.byte kind ∷ urlPieces url part
+
+-- an int is "read as 0 to 4,294,967,295"; any other number, and each element of a text, is a byte
+abbrev pub InBounds : Piece → Type 0
+InBounds (Piece.byte x) = x < 256
+InBounds (Piece.version major minor) = (major < 256) × (minor < 256)
+InBounds (Piece.number n) = n ≤ 4294967295
+InBounds (Piece.text t) = IsBytes t
+
+-- a body as a function can be handed it: its numbers are u8 and u32, its texts slices of bytes
+abbrev pub Bounded : Body → Type 0
+Bounded b = Every InBounds (piecesOf b)
 
 -- a body of that shape, with allowed values, has that field right behind those
 pub record Comes (of : Shape) (front : List Piece) (p : Piece) : Type 0 where

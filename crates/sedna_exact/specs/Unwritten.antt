@@ -1,7 +1,7 @@
 -- Document 01, "When writing or cutting: 2, 8, 11, 14, 10": the moment of each refusal, told by the table and the message.
 use mathlib.Core.Bool.{true}
 use mathlib.Core.Path.{_≡_}
-use Prim.Native.Nat.{ℕ, _<_}
+use Prim.Native.Nat.{ℕ, _<_, _≤_}
 use lib.ListN.{length}
 use Rattle.wire.specs.declared.Refusal.{Refusal}
 use Rattle.wire.specs.declared.Refusal.the-variants.{UnknownInstruction, ValueNotAllowed, NoEncoding, NoRoom}
@@ -10,7 +10,6 @@ use Rattle.sedna.specs.declared.Side.{Side}
 use Rattle.sedna.specs.Allowed.{allowed}
 use Rattle.sedna.specs.Encode.{bodyBytes, encode}
 use Rattle.sedna.specs.Message.{Message, shapeOf}
-use Rattle.sedna.specs.Published.{Published}
 use Rattle.sedna.specs.Table.{InTable}
 
 pub data Unwritten (room : ℕ) (m : Message) : Refusal → Type 0 where
@@ -21,4 +20,5 @@ pub data Unwritten (room : ℕ) (m : Message) : Refusal → Type 0 where
   -- 11: "body above 10,240"
   too-long : (side : Side) → InTable (m .instruction, side, shapeOf (m .body)) → allowed (m .body) ≡ true → 10240 < length (bodyBytes (m .body)) → Unwritten room m NoEncoding
   -- 10: "lent output shorter than the bytes to be put there"
-  no-room : (side : Side) → Published side m → room < length (encode m) → Unwritten room m NoRoom
+  no-room : (side : Side) → InTable (m .instruction, side, shapeOf (m .body)) → allowed (m .body) ≡ true → length (bodyBytes (m .body)) ≤ 10240
+      → room < length (encode m) → Unwritten room m NoRoom
