@@ -12,6 +12,7 @@ use Rattle.sedna_exact.proofs.Meaning.{meaning-located}
 use Rattle.sedna_read.specs.Meaning.{meaning}
 use Rattle.sedna_read.specs.Places.{located}
 use Rattle.sedna_read.specs.Reading.{Answer, reading}
+use Rattle.grammar.proofs.Ended.{ended}
 use Rattle.grammar.proofs.One.{one-layout}
 use Rattle.session.specs.declared.Session.{Session}
 use Rattle.session.specs.Machine.{refused, next}
@@ -95,6 +96,7 @@ demand-3 = record {
       let i = follow offers [] freshSession fresh-follows in
       record { begun = begins i; judged = judge offers [] freshSession fresh-follows; whole = whole-closed i };
   one-layout = one-layout;
+  ended = ended;
   payloads = published-exact;
   sendable = begun-published;
 }

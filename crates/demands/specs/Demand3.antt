@@ -100,6 +100,8 @@ pub record Demand3 : Type 1 where
   pub after-any-list : (offers : List Offer) → After Session step freshSession closedOf offers
   -- "Every whole conversation can be laid out by the grammar in one way only: any two layouts of it are equal."
   pub one-layout : (c d : Conversation) → flat c ≡ flat d → c ≡ d
+  -- "After the end every message gets 9 where no refusal ahead of 9 meets it": no conversation goes on behind a whole one
+  pub ended : (l : List Message) (m : Message) → Whole l → ¬ Begins (l ++ (m ∷ []))
   -- the grammar's messages are the codec's: a body can be sent with an instruction exactly when some side publishes the message
   pub payloads : (k : ℕ) (b : Body) → T (published k b) ↔ ((side : Side) × Published side (message k b))
   -- so a list that begins a conversation has no message that nobody can send
