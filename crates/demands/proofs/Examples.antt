@@ -1,6 +1,5 @@
 -- Each of document 01's marked examples is answered as it says.
-use mathlib.Core.List.{map}
-use mathlib.Core.Path.{_≡_, refl}
+use mathlib.Core.Path.{refl}
 use Rattle.wire.specs.Bytes.{intAt, over, placed}
 use Rattle.sedna.specs.Allowed.{formatAllowed}
 use Rattle.sedna.specs.Table.{rows, search, findOf}
@@ -8,8 +7,8 @@ use Rattle.sedna_read.specs.Fields.{intField, bytesField, stringField}
 use Rattle.sedna_read.specs.Reading.{statementFields, bodyField, heading, reading}
 use Rattle.basex_string.specs.Scan.{scan}
 use Rattle.basex_string.specs.Strings.{string}
-use Rattle.demands.specs.Examples.{Example, reply, table}
+use Rattle.demands.specs.Examples.{table, MarkedExamples}
 
-pub examples : map (λ (e : Example). reply (e .asked)) table ≡ map (λ (e : Example). e .answer) table
+pub examples : MarkedExamples
 unfolding table reading heading findOf rows search intAt bodyField statementFields stringField intField bytesField formatAllowed over placed string scan
 examples = refl

@@ -1,5 +1,6 @@
 -- Document 01, "Worked examples (P: proved, as one table)".
-use mathlib.Core.List.{List, [], _∷_}
+use mathlib.Core.List.{List, [], _∷_, map}
+use mathlib.Core.Path.{_≡_}
 use Prim.Native.Nat.{ℕ, _-_}
 use lib.ListN.{length, take}
 use Rattle.wire.specs.Bytes.{placed}
@@ -42,9 +43,9 @@ abbrev pub readReply : ℕ → Got (List ℕ) → Reply
 readReply n (Got.refused r) = Reply.number (numberOf r)
 readReply n (Got.got t rest) = Reply.text t (n - length rest)
 
--- an output of eight bytes
+-- an output of eight bytes, none of which stands in the encoding below
 abbrev blank : List ℕ
-blank = 0 ∷ 0 ∷ 0 ∷ 0 ∷ 0 ∷ 0 ∷ 0 ∷ 0 ∷ []
+blank = 0xEE ∷ 0xEE ∷ 0xEE ∷ 0xEE ∷ 0xEE ∷ 0xEE ∷ 0xEE ∷ 0xEE ∷ []
 
 abbrev pub reply : Question → Reply
 reply (Question.sedna side s) = sednaReply (reading side s)
@@ -91,3 +92,7 @@ table =
     -- BaseX read FF 41 00: 13
     record { asked = Question.basexRead (0xFF ∷ 0x41 ∷ 0 ∷ []); answer = Reply.number 13 } ∷
     []
+
+-- each is answered as 01 says
+abbrev pub MarkedExamples : Type 0
+MarkedExamples = map (λ (e : Example). reply (e .asked)) table ≡ map (λ (e : Example). e .answer) table

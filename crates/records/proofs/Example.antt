@@ -1,17 +1,17 @@
 -- Document 01's own example of the transcript program prints what it says.
-use mathlib.Core.Path.{_≡_, refl}
+use mathlib.Core.Path.{refl}
 use Rattle.wire.specs.Bytes.{intAt}
 use Rattle.sedna.specs.Table.{rows, search, findOf}
 use Rattle.sedna_read.specs.Fields.{intField, bytesField, stringField}
 use Rattle.sedna_read.specs.Reading.{codedFields, bodyField, heading, reading}
 use Rattle.session.specs.Machine.{clientMove, serverMove, next}
 use Rattle.session.specs.Step.{stepped, closedOf}
-use Rattle.records.specs.Example.{input, output}
+use Rattle.records.specs.Example.{input, output, ExampleHolds}
 use Rattle.records.specs.Record.{headOf, front, recordsUpTo}
 use Rattle.records.specs.Answer.{answered}
 use Rattle.records.specs.Line.{decimalUpTo, line}
 use Rattle.records.specs.Transcript.{printed}
 
-pub example : printed input ≡ output
+pub example : ExampleHolds
 unfolding input output printed recordsUpTo front headOf answered reading heading findOf rows search intAt bodyField codedFields stringField intField bytesField stepped next clientMove serverMove closedOf line decimalUpTo
 example = refl

@@ -1,6 +1,8 @@
 -- Document 01, "The transcript program": its own example.
 use mathlib.Core.List.{List, [], _∷_}
+use mathlib.Core.Path.{_≡_}
 use Prim.Native.Nat.{ℕ}
+use Rattle.records.specs.Transcript.{printed}
 
 -- 08000000 0100 0000006E 00000000 12000000 0200 00000064 0000000A 00000001 00 00000001 78
 unfoldable pub input : List ℕ
@@ -16,3 +18,7 @@ output =
     50 ∷ 32 ∷ 83 ∷ 32 ∷ 49 ∷ 48 ∷ 48 ∷ 32 ∷ 48 ∷ 10 ∷
     99 ∷ 108 ∷ 111 ∷ 115 ∷ 101 ∷ 100 ∷ 10 ∷
     []
+
+-- "prints exactly"
+abbrev pub ExampleHolds : Type 0
+ExampleHolds = printed input ≡ output
