@@ -1,4 +1,4 @@
--- Document 01's own example of the transcript program prints what it says.
+-- The examples of the transcript program print what they say.
 use mathlib.Core.Path.{refl}
 use Rattle.wire.specs.Bytes.{intAt}
 use Rattle.sedna.specs.Table.{rows, search, findOf}
@@ -6,12 +6,12 @@ use Rattle.sedna_read.specs.Fields.{intField, bytesField, stringField}
 use Rattle.sedna_read.specs.Reading.{codedFields, bodyField, heading, reading}
 use Rattle.session.specs.Machine.{clientMove, serverMove, next}
 use Rattle.session.specs.Step.{stepped, closedOf}
-use Rattle.records.specs.Example.{input, output, ExampleHolds}
+use Rattle.records.specs.Example.{table, ExamplesHold}
 use Rattle.records.specs.Record.{headOf, front, recordsUpTo}
 use Rattle.records.specs.Answer.{answered}
 use Rattle.records.specs.Line.{decimalUpTo, line}
 use Rattle.records.specs.Transcript.{printed}
 
-pub example : ExampleHolds
-unfolding input output printed recordsUpTo front headOf answered reading heading findOf rows search intAt bodyField codedFields stringField intField bytesField stepped next clientMove serverMove closedOf line decimalUpTo
-example = refl
+pub examples : ExamplesHold
+unfolding table printed recordsUpTo front headOf answered reading heading findOf rows search intAt bodyField codedFields stringField intField bytesField stepped next clientMove serverMove closedOf line decimalUpTo
+examples = refl
