@@ -8,6 +8,7 @@ use lib.ListN.{length, getElem?}
 use Rattle.wire.specs.declared.Refusal.{Refusal}
 use Rattle.sedna.specs.Message.{Message}
 use Rattle.sedna_exact.proofs.Due.{refused-exact}
+use Rattle.sedna_exact.proofs.Lists.{lists-together, lists-refused, lists-left}
 use Rattle.sedna_exact.proofs.Pieces.{pieces-bytes}
 use Rattle.sedna_exact.proofs.Stands.{refusal-stands}
 use Rattle.sedna_exact.proofs.Unwritten.{unwritten-exact}
@@ -28,6 +29,9 @@ sedna = record {
   refusal-stands = refusal-stands;
   writing-refused = unwritten-exact;
   writing-leaves = λ out m r e. ap (left out m) e;
+  lists-together = lists-together;
+  lists-refused = lists-refused;
+  lists-left = lists-left;
   step-refused = step-refused;
   lent-refused = step-refused;
 }

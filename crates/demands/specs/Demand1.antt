@@ -1,8 +1,10 @@
 -- Demand 1: "Every input gets a defined answer. Bad bytes, wrong order and short room are refused with the number document 01 lists, at the moment it lists and never otherwise. A refusal leaves the session record and every lent buffer unchanged, but for the spoilt mark 01 gives an overfull item or statement."
 --
--- That every input gets the answer of a definition is what the contracts say: `sedna_read::read` answers `located (reading side bytes)`, each `sedna_write::write_..` answers `written` and leaves `left`, `session::step` returns
--- `stepped`, `session_cell::step_lent` answers `lentAnswer` and leaves `lentLeft`, each `fragments::write_.._part` answers `partWritten` and leaves `partLeft`, `assembly::join` returns `joined` and leaves `stored`, and the functions
--- of BaseX answer and leave what is named in the last record.
+-- That every input gets the answer of a definition is what the contracts say: `sedna_read::read` answers `located (reading side bytes)`. Each
+-- `sedna_write::write_..` whose arguments are a message answers `written` of it and leaves `left`; `write_options`, whose lists may not belong
+-- together, answers `judgement` and leaves `left`. `session::step` returns `stepped`, `session_cell::step_lent` answers `lentAnswer` and leaves
+-- `lentLeft`, each `fragments::write_.._part` answers `partWritten` and leaves `partLeft`, `assembly::join` returns `joined` and leaves `stored`,
+-- and the functions of BaseX answer and leave what is named in the last record.
 --
 -- Here stands which refusal each of them gives, and when, by the published formats; and what a refused call leaves. When a step gives 9 is demand 3's.
 use mathlib.Core.Bool.{Bool, true, false}
@@ -19,16 +21,19 @@ use Rattle.wire.specs.declared.Refusal.{Refusal}
 use Rattle.wire.specs.declared.Refusal.the-variants.{MoreBytes, ValueNotAllowed, NoRoom, NoEncoding, NoSuchPart}
 use Rattle.wire.specs.Refusals.{numberOf}
 use Rattle.sedna.specs.declared.Side.{Side}
-use Rattle.sedna.specs.Encode.{bodyBytes, encode}
-use Rattle.sedna.specs.Message.{Body, Message}
+use Rattle.sedna.specs.declared.Shape.the-variants.{Options}
+use Rattle.sedna.specs.Encode.{pairsBytes, bodyBytes, encode}
+use Rattle.sedna.specs.Message.{Body, Message, message}
 use Rattle.sedna.specs.Published.{Published}
 use Rattle.sedna_read.specs.declared.Reading.the-variants as read
 use Rattle.sedna_read.specs.Reading.{Answer, reading}
+use Rattle.sedna_write.specs.declared.Written.{Written}
 use Rattle.sedna_write.specs.declared.Written.the-variants.{Bytes, Refused}
-use Rattle.sedna_write.specs.Writing.{written, left}
+use Rattle.sedna_write.specs.Pairs.{sum, given, pairsOf}
+use Rattle.sedna_write.specs.Writing.{judgement, written, left}
 use Rattle.sedna_exact.specs.Due.{Due}
 use Rattle.sedna_exact.specs.Pieces.{piecesBytes, piecesOf}
-use Rattle.sedna_exact.specs.Unwritten.{Unwritten}
+use Rattle.sedna_exact.specs.Unwritten.{Unwritten, UnwrittenLists}
 use Rattle.session.specs.declared.Session.{Session}
 use Rattle.session.specs.Step.{stepped}
 use Rattle.session_cell.specs.Lent.{lentAnswer, lentLeft}
@@ -69,6 +74,14 @@ pub record Sedna : Type 0 where
   -- writing refuses with r exactly when `Unwritten` says so, and then leaves every byte of the lent output
   pub writing-refused : (room : ℕ) (m : Message) (r : Refusal) → (written room m ≡ Refused r) ↔ Unwritten room m r
   pub writing-leaves : (out : List ℕ) (m : Message) (r : Refusal) → written (length out) m ≡ Refused r → left out m (written (length out) m) ≡ out
+  -- options, which the writer takes as three lists: they belong together exactly when there are as many lengths as ids, which add up to the values.
+  -- Then what is written is a message (`options-written` in demand 2). Else the call is refused, with 2 or 8 as `UnwrittenLists` says, and leaves the output
+  pub lists-together : (ids lengths values : List ℕ) → (given ids lengths values ≡ true) ↔ ((length ids ≡ length lengths) × (sum lengths ≡ length values))
+  pub lists-refused : (room i : ℕ) (ids lengths values : List ℕ) → given ids lengths values ≡ false → (r : Refusal)
+      → (judgement i Options (given ids lengths values) (length (pairsBytes (pairsOf ids lengths values))) room ≡ Refused r) ↔ UnwrittenLists i r
+  pub lists-left : (out : List ℕ) (i : ℕ) (ids lengths values : List ℕ) → given ids lengths values ≡ false
+      → (w : Written) → w ≡ judgement i Options (given ids lengths values) (length (pairsBytes (pairsOf ids lengths values))) (length out)
+      → (r : Refusal) × (w ≡ Refused r) × (left out (message i (Body.options (pairsOf ids lengths values))) w ≡ out)
   -- a refused step, of either form, leaves the session record as it was, and refuses with 1 to 9 only
   pub step-refused : (s : Session) (side : Side) (bytes : List ℕ) (r : Refusal) → stepped s side bytes .answer ≡ read.Refused r
       → (stepped s side bytes .session ≡ s) × (1 ≤ numberOf r) × (numberOf r ≤ 9)

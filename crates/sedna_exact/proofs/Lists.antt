@@ -1,18 +1,34 @@
--- Options given to the writer as three lists: they are a message's options, and every message's options can be given so.
-use mathlib.Core.Path.{_≡_, refl}
+-- Options given to the writer as three lists: they are a message's options, and every message's options can be given so; or the lists do not belong together.
+use mathlib.Core.Path.{_≡_, refl, sym, _∙_, ap, subst}
 use mathlib.Core.List.{List, [], _∷_, _++_, map}
-use mathlib.Core.Bool.{true}
+use mathlib.Core.Bool.{Bool, true, false}
+use mathlib.Core.Logic.{_↔_}
 use Prim.Native.Nat.{ℕ, _+_}
 use native.Mathlib.Omega.{arith}
+use lib.Dec.{eqb}
 use lib.ListN.{length, length-append, length-map}
 use lib.Seq.{take-append-seam, drop-append-seam}
-use borrow.Author.Tests.{eq-eqb}
+use borrow.Author.Tests.{eq-eqb, eqb-true}
+use Rattle.wire.specs.Bytes.{if}
+use Rattle.wire.specs.declared.Refusal.{Refusal}
+use Rattle.wire.specs.declared.Refusal.the-variants.{UnknownInstruction, ValueNotAllowed}
+use Rattle.sedna.specs.declared.Found.{Found}
+use Rattle.sedna.specs.declared.Found.the-variants.{Known, Unknown}
+use Rattle.sedna.specs.declared.Fit.the-variants as fit
 use Rattle.sedna.specs.declared.Shape.the-variants as shape
 use Rattle.sedna.specs.Allowed.{allowed}
 use Rattle.sedna.specs.Encode.{bodyBytes, pairsBytes}
 use Rattle.sedna.specs.Message.{Pair, Body, message}
+use Rattle.sedna.specs.Kinds.{sameShape}
+use Rattle.sedna.specs.Table.{findOf, fitOf}
+use Rattle.sedna_write.specs.declared.Written.{Written}
+use Rattle.sedna_write.specs.declared.Written.the-variants.{Refused}
 use Rattle.sedna_write.specs.Pairs.{sum, given, pairsOf}
-use Rattle.sedna_write.specs.Writing.{judgement, written}
+use Rattle.sedna_write.specs.Writing.{judgedAs, judgement, written, left}
+use Rattle.sedna_exact.specs.Unwritten.{UnwrittenLists}
+use Rattle.sedna_exact.proofs.Branches.{both}
+use Rattle.sedna_exact.proofs.Due.{lacking, lacks}
+use Rattle.sedna_exact.proofs.Table.{find-listed, listed-find}
 
 -- lists that belong together are written as the message with those options
 pub options-written : (room i : ℕ) (ids lengths values : List ℕ) → given ids lengths values ≡ true
@@ -50,3 +66,53 @@ pairs-all (p ∷ ps) = rw (take-append-seam (p .value) (valuesOf ps), drop-appen
 -- every list of options can be given
 pub options-given : (ps : List Pair) → (ids : List ℕ) × (lengths : List ℕ) × (values : List ℕ) × (given ids lengths values ≡ true) × (pairsOf ids lengths values ≡ ps)
 options-given ps = (idsOf ps, lengthsOf ps, valuesOf ps, given-all ps, pairs-all ps)
+
+-- as many lengths as ids, which add up to the number of values
+pub lists-together : (ids lengths values : List ℕ) → (given ids lengths values ≡ true) ↔ ((length ids ≡ length lengths) × (sum lengths ≡ length values))
+unfolding given
+lists-together ids lengths values =
+    let split = both (eqb (length ids) (length lengths)) (eqb (sum lengths) (length values)) in (
+      λ e. (eqb-true (length ids) (length lengths) (split .0 e .0), eqb-true (sum lengths) (length values) (split .0 e .1)),
+      λ p. split .1 (eq-eqb (length ids) (length lengths) (p .0), eq-eqb (sum lengths) (length values) (p .1)),
+    )
+
+-- a value that is not allowed: 8 whatever the body in the table, however long and whatever the room
+bad-value : (t : Bool) (n room : ℕ) → judgedAs (if t fit.Same fit.Other) false n room ≡ Refused ValueNotAllowed
+bad-value true n room = refl
+bad-value false n room = refl
+
+module _ (room n i : ℕ) where
+  -- what is answered where the table has nothing, or something
+  refused-lists : (r : Refusal) × (judgement i shape.Options false n room ≡ Refused r) × UnwrittenLists i r
+  unfolding judgement
+  refused-lists = by (findOf i) refl
+    where
+      by : (f : Found) → findOf i ≡ f → (r : Refusal) × (judgedAs (fitOf f shape.Options) false n room ≡ Refused r) × UnwrittenLists i r
+      by Unknown found = (UnknownInstruction, refl, UnwrittenLists.unknown (lacking i found))
+      by (Known sender own) found = (ValueNotAllowed, bad-value (sameShape own shape.Options) n room, UnwrittenLists.value (i, sender, own) (listed-find i sender own found) refl)
+
+  due-lists : {r : Refusal} → UnwrittenLists i r → judgement i shape.Options false n room ≡ Refused r
+  unfolding judgement
+  due-lists (UnwrittenLists.unknown none) = rw (lacks i none)
+  due-lists (UnwrittenLists.value e listed same) = rw (ap findOf (sym same) ∙ find-listed e listed) (bad-value (sameShape (e .2) shape.Options) n room)
+
+-- lists that do not belong together: 2 or 8, exactly when it is due
+pub lists-refused : (room i : ℕ) (ids lengths values : List ℕ) → given ids lengths values ≡ false → (r : Refusal)
+    → (judgement i shape.Options (given ids lengths values) (length (pairsBytes (pairsOf ids lengths values))) room ≡ Refused r) ↔ UnwrittenLists i r
+lists-refused room i ids lengths values e r = rw e (back, due-lists room n i)
+  where
+    n : ℕ
+    n = length (pairsBytes (pairsOf ids lengths values))
+
+    back : judgement i shape.Options false n room ≡ Refused r → UnwrittenLists i r
+    back q = let x = refused-lists room n i in let z : x .0 ≡ r = cc in subst (UnwrittenLists i) z (x .2)
+
+-- always one of the two, and the output is left
+pub lists-left : (out : List ℕ) (i : ℕ) (ids lengths values : List ℕ) → given ids lengths values ≡ false
+    → (w : Written) → w ≡ judgement i shape.Options (given ids lengths values) (length (pairsBytes (pairsOf ids lengths values))) (length out)
+    → (r : Refusal) × (w ≡ Refused r) × (left out (message i (Body.options (pairsOf ids lengths values))) w ≡ out)
+lists-left out i ids lengths values e w q =
+    let n : ℕ = length (pairsBytes (pairsOf ids lengths values)) in
+    let x = refused-lists (length out) n i in
+    let is : w ≡ Refused (x .0) = q ∙ ap (λ (b : Bool). judgement i shape.Options b n (length out)) e ∙ x .1 in
+    (x .0, is, ap (left out (message i (Body.options (pairsOf ids lengths values)))) is)

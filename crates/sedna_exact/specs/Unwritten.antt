@@ -22,3 +22,10 @@ pub data Unwritten (room : ℕ) (m : Message) : Refusal → Type 0 where
   -- 10: "lent output shorter than the bytes to be put there"
   no-room : (side : Side) → InTable (m .instruction, side, shapeOf (m .body)) → allowed (m .body) ≡ true → length (bodyBytes (m .body)) ≤ 10240
       → room < length (encode m) → Unwritten room m NoRoom
+
+-- the same of options given as lists that do not belong together: 8 goes ahead of 11 and 10, so that neither their lengths nor the room matter
+pub data UnwrittenLists (instruction : ℕ) : Refusal → Type 0 where
+  -- 2: the table lacks the instruction
+  unknown : ((e : Entry) → InTable e → ¬ (e .0 ≡ instruction)) → UnwrittenLists instruction UnknownInstruction
+  -- 8: it has it, with options or with another body
+  value : (e : Entry) → InTable e → e .0 ≡ instruction → UnwrittenLists instruction ValueNotAllowed
