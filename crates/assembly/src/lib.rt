@@ -306,14 +306,15 @@ fn bytes_handed(answer: Answer) -> usize
     }
 }
 
-// What an answer hands over: the front part of the buffer, where it stands, with no copy. All of the
-// buffer where it is shorter, as no buffer is that the answer was given for.
-pub fn handed<'a>(buffer: &'a mut [u8], answer: Answer) -> &'a mut [u8]
+// What an answer hands over: the front part of the buffer, where it stands, with no copy; shared, so
+// that nothing is changed. All of the buffer where it is shorter, as no buffer is that the answer was
+// given for.
+pub fn handed<'a>(buffer: &'a [u8], answer: Answer) -> &'a [u8]
     ensures { λ r. ⌜ (now r ≡ take (bytesHanded (reply answer)) (now (buffer .entry))) × (r .ptr ≡ buffer .entry .ptr) ⌝ }
 {
     let len = bytes_handed(answer);
     if len <= buffer.len() {
-        &mut buffer[..len]
+        &buffer[..len]
     } else {
         buffer
     }
