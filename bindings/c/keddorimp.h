@@ -499,8 +499,9 @@ enum kdr_basex_item_field {
 /* The item that starts at `at` in the bytes of a response to a request whose first byte is `kind`;
  * the first stands at 0. The answer is how many bytes it takes, so the next stands so many bytes
  * further on, and `told` gets three numbers. At the 00 behind the last item the answer is 0, and
- * nothing is told. Refused: 2 for a kind that is none; 8 for one without items; then 1, 8 and 13,
- * field by field; last 10 where fewer than three numbers are lent. */
+ * nothing is told. Refused: 1 where no byte stands at `at`; 2 for a kind that is none; 8 for one
+ * without items; then 1, 8 and 13, field by field; last 10 where fewer than three numbers are
+ * lent. */
 uint64_t kdr_basex_item(uint8_t kind, const uint8_t *bytes, size_t bytes_len, size_t at,
                         uint64_t *told, size_t told_len);
 

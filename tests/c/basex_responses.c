@@ -70,8 +70,10 @@ static void check_items(void)
     REFUSED(KDR_MORE_BYTES, kdr_basex_item(full, bytes, n, SIZE_MAX, NULL, 0));
     REFUSED(KDR_VALUE_NOT_ALLOWED, kdr_basex_item(full, bytes, n, 1, t, 2));
     REFUSED(KDR_BAD_ESCAPE, kdr_basex_item(results, bad, 3, 0, t, 2));
-    REFUSED(KDR_UNKNOWN_INSTRUCTION, kdr_basex_item(0x01, NULL, 0, 0, t, 3));
-    REFUSED(KDR_VALUE_NOT_ALLOWED, kdr_basex_item(KDR_BASEX_QUERY, NULL, 0, 0, t, 3));
+    REFUSED(KDR_UNKNOWN_INSTRUCTION, kdr_basex_item(0x01, bytes, n, n - 1, t, 2));
+    REFUSED(KDR_VALUE_NOT_ALLOWED, kdr_basex_item(KDR_BASEX_QUERY, bytes, n, n - 1, t, 2));
+    REFUSED(KDR_MORE_BYTES, kdr_basex_item(0x01, bytes, n, n, t, 2));
+    REFUSED(KDR_MORE_BYTES, kdr_basex_item(KDR_BASEX_QUERY, NULL, 0, 0, t, 3));
 }
 
 static void check_writing_items(void)

@@ -131,10 +131,12 @@ fn few_numbers() -> Result<(), Disagreement> {
 
 /// The same of the call for an item; the end of the items needs no numbers.
 fn few_numbers_of_items() -> Result<(), Disagreement> {
-    let refused: [(u8, &[u8], u8); 7] = [
-        (0x01, b"", UNKNOWN),
-        (QUERY, b"", NOT_ALLOWED),
+    let refused: [(u8, &[u8], u8); 9] = [
+        (0x01, b"", MORE_NEEDED),
+        (QUERY, b"", MORE_NEEDED),
         (FULL, b"", MORE_NEEDED),
+        (0x01, b"\x07a\0", UNKNOWN),
+        (QUERY, b"\x07a\0", NOT_ALLOWED),
         (FULL, b"\x06a\0", NOT_ALLOWED),
         (FULL, b"\x07\xFFa", BAD_ESCAPE),
         (FULL, b"\x07a\0", NO_ROOM),

@@ -1,9 +1,10 @@
 -- What each call counts, and what it tells.
 use mathlib.Core.List.{List, [], _∷_}
 use Prim.Native.Nat.{ℕ, _-_}
+use lib.Dec.{ltb}
 use lib.ListN.{length, drop}
 use Rattle.wire.specs.Bytes.{if}
-use Rattle.wire.specs.declared.Refusal.the-variants.{UnknownInstruction, ValueNotAllowed}
+use Rattle.wire.specs.declared.Refusal.the-variants.{MoreBytes, UnknownInstruction, ValueNotAllowed}
 use Rattle.wire.specs.Refusals.{refusalCode}
 use Rattle.basex_string.specs.declared.Spelled.{Spelled}
 use Rattle.basex_string.specs.declared.Spelled.the-variants as spelled
@@ -53,10 +54,14 @@ itemTold at (item-at.Item id uri text behind) = Outcome.counted (behind - at) (i
 itemTold at (item-at.End behind) = Outcome.counted 0 []
 itemTold at (item-at.Refused r) = Outcome.refused r
 
--- the item that stands at `at` in a response: 2 for a kind that is none, 8 for one without items
-abbrev pub itemIn : Found → List ℕ → ℕ → ItemAt
-itemIn Unknown s at = item-at.Refused UnknownInstruction
-itemIn (Known n reply) s at = if (listed reply) (itemAt (isFull reply) at (length s - at) (next (isFull reply) (drop at s))) (item-at.Refused ValueNotAllowed)
+-- the item that stands at `at` in a response: 2 for a kind that is none, 8 for one without items, then its fields
+abbrev pub itemAs : Found → List ℕ → ℕ → ItemAt
+itemAs Unknown s at = item-at.Refused UnknownInstruction
+itemAs (Known n reply) s at = if (listed reply) (itemAt (isFull reply) at (length s - at) (next (isFull reply) (drop at s))) (item-at.Refused ValueNotAllowed)
+
+-- "1 for no byte, 2, then fields": where no byte stands at `at`, 1 whatever the kind
+abbrev pub itemIn : ℕ → List ℕ → ℕ → ItemAt
+itemIn kind s at = if (ltb at (length s)) (itemAs (findOf kind) s at) (item-at.Refused MoreBytes)
 
 -- judging the string at `at`, with so many numbers lent
 abbrev pub judging : List ℕ → ℕ → ℕ → Outcome
@@ -76,4 +81,4 @@ responseRead kind s room numbers = lent numbers (responseTold (answered (length 
 
 -- reading the item at `at` of one, with so many numbers lent
 abbrev pub itemRead : ℕ → List ℕ → ℕ → ℕ → Outcome
-itemRead kind s at numbers = lent numbers (itemTold at (itemIn (findOf kind) s at))
+itemRead kind s at numbers = lent numbers (itemTold at (itemIn kind s at))

@@ -88,10 +88,14 @@ fn tell_item(told: &mut [u64], at: usize, answer: ItemAt) -> u64
     }
 }
 
-// What stands at `at` in the items of a response to a request that starts with the byte `kind`.
+// What stands at `at` in the items of a response to a request that starts with the byte `kind`: no
+// byte there is judged ahead of the kind, as in reading the whole response.
 fn item_in(kind: u8, bytes: &[u8], at: usize) -> ItemAt
-    ensures { λ r. ⌜ r ≡ itemIn (findOf kind) (now (bytes .entry)) at ⌝ }
+    ensures { λ r. ⌜ r ≡ itemIn kind (now (bytes .entry)) at ⌝ }
 {
+    if bytes.len() <= at {
+        return ItemAt::Refused(Refusal::MoreBytes);
+    }
     match basex::find(kind) {
         Found::Unknown => ItemAt::Refused(Refusal::UnknownInstruction),
         Found::Known(_, reply) => {

@@ -40,6 +40,10 @@ pub fn has_uri(full: bool, id: u8) -> bool {
 /// behind the last.
 #[inline(always)]
 pub fn item(kind: u8, bytes: &[u8], at: usize) -> Result<Option<Item>, u8> {
+    // "1 for no byte, 2, then fields"
+    if bytes.len() <= at {
+        return Err(MORE_NEEDED);
+    }
     match Form::of(kind).ok_or(UNKNOWN)? {
         Form::Items { full } => item_at(full, bytes, at),
         _ => Err(NOT_ALLOWED),

@@ -73,8 +73,10 @@ fn items() {
     assert_eq!(item(FULL, &bytes, 4), Err(NOT_ALLOWED));
     assert_eq!(item(FULL, &bytes, 11), Err(MORE_NEEDED));
     assert_eq!(item(FULL, &bytes, usize::MAX), Err(MORE_NEEDED));
-    assert_eq!(item(0x01, &bytes, 11), Err(UNKNOWN));
-    assert_eq!(item(QUERY, &bytes, 11), Err(NOT_ALLOWED));
+    assert_eq!(item(0x01, &bytes, 10), Err(UNKNOWN));
+    assert_eq!(item(QUERY, &bytes, 10), Err(NOT_ALLOWED));
+    assert_eq!(item(0x01, &bytes, 11), Err(MORE_NEEDED));
+    assert_eq!(item(QUERY, &bytes, 11), Err(MORE_NEEDED));
 }
 
 #[test]
