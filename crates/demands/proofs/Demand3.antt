@@ -64,7 +64,7 @@ module _ (o : Offer) where
 
       met : (m : Message) (n : ℕ) → read ≡ Answer.accepted m n → (x : Outcome) → Settled acc s m n x → Goes acc (done x)
       met m n e x (taken f) = (Right.accepted e (begins f), f)
-      met m n e x (nine b) = (Right.out-of-order e b, stays)
+      met m n e x (nine b) = (Right.out-of-order e b refl, stays)
 
       by : (a : Answer) → read ≡ a → Goes acc (done (outcome s a))
       by (Answer.refused r) e = (Right.unread e, stays)

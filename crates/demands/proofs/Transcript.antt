@@ -67,11 +67,11 @@ NoneLeft r = (m : Message) (n : ℕ) → readAs r ≡ Answer.accepted m n → le
 right-number : {before : List Message} (r : Record) (b : IsBytes (r .payload)) {a : Answer} → Right before (offer r b) a
     → NoneLeft r → RightNumber before r (numbered a) × (messageOf (readAs r) (numbered a) ≡ messages (a ∷ []))
 right-number r b (Right.unread e) all = (RightNumber.unread e, rw e)
-right-number r b (Right.out-of-order {m} {n} e never) all =
+right-number r b (Right.out-of-order {m} {n} {r = x} e never nine) all =
     let w = read-within r b m n e in
     let q = all m n e in
     let l : n ≡ length (r .payload) = omega arith in
-    (RightNumber.out-of-order (e ∙ ap (Answer.accepted m) l) never, rw e)
+    rw nine (RightNumber.out-of-order (e ∙ ap (Answer.accepted m) l) never, rw e)
 right-number r b (Right.accepted {m} {n} e goes-on) all =
     let w = read-within r b m n e in
     let q = all m n e in

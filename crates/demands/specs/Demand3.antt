@@ -13,7 +13,7 @@ use lib.Dec.{T}
 use Rattle.wire.specs.Bytes.{IsBytes}
 use Rattle.wire.specs.Every.{Every}
 use Rattle.wire.specs.declared.Refusal.{Refusal}
-use Rattle.wire.specs.declared.Refusal.the-variants.{OutOfOrder}
+use Rattle.wire.specs.Refusals.{numberOf}
 use Rattle.sedna.specs.declared.Side.{Side}
 use Rattle.sedna.specs.Message.{Body, Message, message}
 use Rattle.sedna.specs.Published.{Published}
@@ -43,7 +43,8 @@ pub data Right (before : List Message) (o : Offer) : Answer → Type 0 where
   -- "A message that 01's order of reading refuses ahead of its 9 got that refusal."
   unread : {r : Refusal} → reading (o .side) (o .bytes) ≡ Answer.refused r → Right before o (Answer.refused r)
   -- "Any other was refused, and then with 9, exactly when no conversation begins with those accepted before it followed by it."
-  out-of-order : {m : Message} {n : ℕ} → reading (o .side) (o .bytes) ≡ Answer.accepted m n → ¬ Begins (before ++ (m ∷ [])) → Right before o (Answer.refused OutOfOrder)
+  out-of-order : {m : Message} {n : ℕ} {r : Refusal} → reading (o .side) (o .bytes) ≡ Answer.accepted m n → ¬ Begins (before ++ (m ∷ [])) → numberOf r ≡ 9
+      → Right before o (Answer.refused r)
   -- "a step that accepts answers that message and the number of bytes read"
   accepted : {m : Message} {n : ℕ} → reading (o .side) (o .bytes) ≡ Answer.accepted m n → Begins (before ++ (m ∷ [])) → Right before o (Answer.accepted m n)
 
