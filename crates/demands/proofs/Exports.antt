@@ -57,7 +57,7 @@ module _ (before : List Message) (d : List ℕ) (two : 2 ≤ length d) (c : Call
     takes m n e {s} f = by (ltb (length (c .fields)) 10) refl
       where
         by : (t : Bool) → ltb (length (c .fields)) 10 ≡ t → Goes before d c (calledAs d c (told (record { session = s; answer = Answer.accepted m n })))
-        by true short = rw short (refused NoRoom (Why.no-room side m n is e (begins f) (ltb-true (length (c .fields)) 10 short)))
+        by true short = rw short (refused NoRoom (Why.no-room side m n is e (begins f) (ltb-true (length (c .fields)) 10 short) refl))
         by false room =
             rw room (record {
               accepted = m ∷ [];
@@ -68,7 +68,7 @@ module _ (before : List Message) (d : List ℕ) (two : 2 ≤ length d) (c : Call
 
     settled-so : (m : Message) (n : ℕ) → reading side (c .bytes) ≡ Answer.accepted m n → {x : Outcome} → Settled before (recordIn d) m n x → Goes before d c (calledAs d c (told x))
     settled-so m n e (taken f) = takes m n e f
-    settled-so m n e (nine b) = refused OutOfOrder (Why.out-of-order side m n is e b)
+    settled-so m n e (nine b) = refused OutOfOrder (Why.out-of-order side m n is e b refl)
 
     stepped-so : Goes before d c (calledAs d c (stepped (recordIn d) side (c .bytes)))
     unfolding stepped
@@ -86,7 +86,7 @@ module _ (before : List Message) (d : List ℕ) (two : 2 ≤ length d) (c : Call
       by : (a : Bool) → eqb (c .side) 1 ≡ a → (b : Bool) → eqb (c .side) 2 ≡ b → Goes before d c (calledAs d c (sideStepped (recordIn d) (c .side) (c .bytes)))
       by true one b p = rw one (stepped-so Client (subst (λ (n : ℕ). SideOf n Client) (sym (eqb-true (c .side) 1 one)) client))
       by false other true two = rw (other, two) (stepped-so Server (subst (λ (n : ℕ). SideOf n Server) (sym (eqb-true (c .side) 2 two)) server))
-      by false other false neither = rw (other, neither) (refused ValueNotAllowed (Why.nobody none))
+      by false other false neither = rw (other, neither) (refused ValueNotAllowed (Why.nobody none refl))
         where
           no-side : (n : ℕ) (side : Side) → SideOf n side → n ≡ c .side → ⊥
           no-side n side client e = eqb-false (c .side) 1 other (sym e)

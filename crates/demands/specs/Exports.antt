@@ -6,8 +6,8 @@ use Prim.Native.Nat.{ℕ, _-_, _≤_, _<_}
 use lib.ListN.{length, drop}
 use Rattle.wire.specs.Bytes.{IsBytes}
 use Rattle.wire.specs.declared.Refusal.{Refusal}
-use Rattle.wire.specs.declared.Refusal.the-variants.{ValueNotAllowed, OutOfOrder, NoRoom}
-use Rattle.wire.specs.Refusals.{refusalCode}
+use Rattle.wire.specs.declared.Refusal.the-variants.{NoRoom}
+use Rattle.wire.specs.Refusals.{numberOf, refusalCode}
 use Rattle.sedna.specs.declared.Side.{Side}
 use Rattle.sedna.specs.declared.Side.the-variants.{Client, Server}
 use Rattle.sedna.specs.Message.{Message}
@@ -45,13 +45,15 @@ pub data SideOf : ℕ → Side → Type 0 where
 -- the refusal that a call gets, given the messages accepted before it
 pub data Why (before : List Message) (c : Call) : Refusal → Type 0 where
   -- a side that is none
-  nobody : ((side : Side) → ¬ SideOf (c .side) side) → Why before c ValueNotAllowed
+  nobody : {r : Refusal} → ((side : Side) → ¬ SideOf (c .side) side) → numberOf r ≡ 8 → Why before c r
   -- "A message that 01's order of reading refuses ahead of its 9 got that refusal."
   unread : (side : Side) (r : Refusal) → SideOf (c .side) side → reading side (c .bytes) ≡ Answer.refused r → Why before c r
   -- "… and then with 9, exactly when no conversation begins with those accepted before it followed by it."
-  out-of-order : (side : Side) (m : Message) (n : ℕ) → SideOf (c .side) side → reading side (c .bytes) ≡ Answer.accepted m n → ¬ Begins (before ++ (m ∷ [])) → Why before c OutOfOrder
+  out-of-order : {r : Refusal} (side : Side) (m : Message) (n : ℕ) → SideOf (c .side) side → reading side (c .bytes) ≡ Answer.accepted m n
+      → ¬ Begins (before ++ (m ∷ [])) → numberOf r ≡ 9 → Why before c r
   -- a message that would be accepted, and fewer than ten numbers for it
-  no-room : (side : Side) (m : Message) (n : ℕ) → SideOf (c .side) side → reading side (c .bytes) ≡ Answer.accepted m n → Begins (before ++ (m ∷ [])) → length (c .fields) < 10 → Why before c NoRoom
+  no-room : {r : Refusal} (side : Side) (m : Message) (n : ℕ) → SideOf (c .side) side → reading side (c .bytes) ≡ Answer.accepted m n
+      → Begins (before ++ (m ∷ [])) → length (c .fields) < 10 → numberOf r ≡ 10 → Why before c r
 
 -- a call on the session's bytes d came out right, and accepted these messages, one or none
 pub data Right (before : List Message) (d : List ℕ) (c : Call) : Called → List Message → Type 0 where
