@@ -18,6 +18,7 @@ use Rattle.fragments_exact.proofs.Cuts.{statement-cut-published, statement-cut-
 use Rattle.fragments_exact.proofs.Filled.{statement-filled, item-filled, typed-filled, url-fits, url-counted}
 use Rattle.fragments_exact.proofs.Joins.{statement-rejoined, item-rejoined, typed-item-rejoined}
 use Rattle.fragments_exact.proofs.Parts.{part-read}
+use Rattle.fragments_exact.proofs.ThroughBytes.{returned, room-enough}
 use Rattle.basex_string.specs.Scan.{reading}
 use Rattle.basex_string.specs.Strings.{string}
 use Rattle.basex_string.proofs.Laws as strings
@@ -69,6 +70,8 @@ parts = record {
   url-counted = url-counted;
   typed-rejoined = typed-item-rejoined;
   part-read = part-read;
+  returned = returned;
+  room-enough = room-enough;
 }
 
 string-exact : (s t rest : List ℕ) → (reading s ≡ Got.got t rest) ↔ (s ≡ string t ++ rest)

@@ -42,6 +42,7 @@ use Rattle.assembly.specs.declared.Open.the-variants as gathering
 use Rattle.assembly.specs.Cuttings.{Cutting, Ending, ending, messages, AllAllowed, Joins}
 use Rattle.fragments_exact.specs.Filled.{Filled}
 use Rattle.fragments_exact.specs.Rejoined.{UrlFits, Rejoined}
+use Rattle.fragments_exact.specs.ThroughBytes.{Uncut, Sendable, Roomy, Returned}
 use Rattle.basex_string.specs.declared.Spelled.the-variants as spelled
 use Rattle.basex_string.specs.Scan as strings
 use Rattle.basex_string.specs.Strings.{string}
@@ -138,6 +139,10 @@ pub record Parts : Type 0 where
   -- through bytes: part k of a cut that was written and read back, by the places that the reader tells, is the cut's message k, which is what `assembly::join` is given
   pub part-read : (side : Side) (cut : List Message) → Every (Published side) cut → (k : ℕ) (m : Message) → getElem? cut k ≡ some m → (out : List ℕ) (n : ℕ) → partWritten true true cut k (length out) ≡ wrote.Bytes n
       → meaning (partLeft out (some m) (wrote.Bytes n)) (located (reading side (partLeft out (some m) (wrote.Bytes n)))) ≡ Answer.accepted m n
+  -- all of it at once: what is cut, written part by part into outputs with room, read by its side, and joined in order is returned where it fits the
+  -- buffer; where it does not, 12. Outputs of 10,248 bytes always have room
+  pub returned : (u : Uncut) → Sendable u → (outs : ℕ → List ℕ) → Roomy u outs → (d : List ℕ) → Returned u outs d
+  pub room-enough : (u : Uncut) → Sendable u → (outs : ℕ → List ℕ) → ((k : ℕ) → 10248 ≤ length (outs k)) → Roomy u outs
 
 -- BaseX strings, requests, and responses read knowing the request
 pub record BaseX : Type 0 where

@@ -35,7 +35,7 @@ module _ {A : Type 0} (P : A → Type 0) where
   every [] f = tt
   every (x ∷ l) f = (f x (List·Memᴰ·head refl), every l (λ y i. f y (List·Memᴰ·tail i)))
 
-  every-append : (k l : List A) → Every P k → Every P l → Every P (k ++ l)
+  pub every-append : (k l : List A) → Every P k → Every P l → Every P (k ++ l)
   every-append [] l h g = g
   every-append (x ∷ k) l h g = (h .0, every-append k l (h .1) g)
 

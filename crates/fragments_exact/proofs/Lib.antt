@@ -3,3 +3,4 @@ pub mod Cuts
 pub mod Filled
 pub mod Joins
 pub mod Parts
+pub mod ThroughBytes

@@ -1,2 +1,3 @@
 pub mod Filled
 pub mod Rejoined
+pub mod ThroughBytes

@@ -1,0 +1,150 @@
+-- "Cutting a statement or an item and joining it returns its bytes, where they fit the lent buffer", through bytes: every part is written into
+-- lent output, as `fragments::write_.._part` leaves it, read from there by `sedna_read::read`, and joined by `assembly::join` at the places read.
+use mathlib.Core.Bool.{Bool, true}
+use mathlib.Core.List.{List, [], _∷_, _++_, map}
+use mathlib.Core.Option.{some}
+use mathlib.Core.Path.{_≡_}
+use Prim.Native.Nat.{ℕ, zero, suc, _-_, _≤_, _<_}
+use lib.Dec.{leb}
+use lib.ListN.{length, take, getElem?, replicate}
+use Rattle.wire.specs.Bytes.{IsBytes}
+use Rattle.wire.specs.Refusals.{numberOf}
+use Rattle.sedna.specs.declared.Side.{Side}
+use Rattle.sedna.specs.declared.Side.the-variants.{Client, Server}
+use Rattle.sedna.specs.Allowed.{formatAllowed, allowed}
+use Rattle.sedna.specs.Encode.{encode}
+use Rattle.sedna.specs.Message.{Url, Body, Message}
+use Rattle.sedna_read.specs.Meaning.{meaning}
+use Rattle.sedna_read.specs.Places.{located}
+use Rattle.sedna_read.specs.Reading.{Answer, reading}
+use Rattle.sedna_write.specs.Writing.{written, left}
+use Rattle.sedna_exact.specs.Pieces.{Bounded}
+use Rattle.fragments.specs.Cut.{partRoom, startRoom, cutStatement, cutItem, cutTypedItem}
+use Rattle.fragments.specs.Part.{statementParts, itemPartsFrom, partWritten, partLeft}
+use Rattle.assembly.specs.declared.Assembly.{Assembly}
+use Rattle.assembly.specs.declared.Open.{Open}
+use Rattle.assembly.specs.declared.Open.the-variants as gathering
+use Rattle.assembly.specs.Answers.{Reply, reply}
+use Rattle.assembly.specs.Calls.{Run, after, shortReplies, shortText}
+use Rattle.assembly.specs.Cuttings.{Ending, ending, fronted}
+use Rattle.assembly.specs.Joining.{opened, closed, joined, stored}
+use Rattle.assembly.specs.Roles.{textOf}
+use Rattle.fragments_exact.specs.Rejoined.{UrlFits}
+
+-- what is cut: a statement with its format; an item up to 3.0; one of 4.0 with class, type and URL or none. An item's end is sent behind its parts
+pub data Uncut : Type 0 where
+  statement : ℕ → List ℕ → Uncut
+  item : List ℕ → Ending → Uncut
+  typed-item : ℕ → ℕ → Url → List ℕ → Ending → Uncut
+
+abbrev pub text : Uncut → List ℕ
+text (Uncut.statement format t) = t
+text (Uncut.item t e) = t
+text (Uncut.typed-item class kind url t e) = t
+
+-- "with class and type in 4.0 or the format"
+abbrev pub told : Uncut → List ℕ
+told (Uncut.statement format t) = format ∷ []
+told (Uncut.item t e) = []
+told (Uncut.typed-item class kind url t e) = class ∷ kind ∷ []
+
+-- who sends it
+abbrev pub sender : Uncut → Side
+sender (Uncut.statement format t) = Client
+sender (Uncut.item t e) = Server
+sender (Uncut.typed-item class kind url t e) = Server
+
+-- which opening it wants
+abbrev pub opens : Uncut → Open
+opens (Uncut.statement format t) = gathering.Statement
+opens (Uncut.item t e) = gathering.Item
+opens (Uncut.typed-item class kind url t e) = gathering.TypedItem
+
+abbrev pub cut : Uncut → List Message
+cut (Uncut.statement format t) = cutStatement format t
+cut (Uncut.item t e) = cutItem t
+cut (Uncut.typed-item class kind url t e) = cutTypedItem class kind url t
+
+-- how many parts that are, as `fragments::.._parts` tell
+abbrev pub count : Uncut → ℕ
+count (Uncut.statement format t) = statementParts (length t)
+count (Uncut.item t e) = itemPartsFrom partRoom (length t)
+count (Uncut.typed-item class kind url t e) = itemPartsFrom (startRoom url) (length t)
+
+-- what is sent behind them
+abbrev pub end : Uncut → List Message
+end (Uncut.statement format t) = []
+end (Uncut.item t e) = ending e ∷ []
+end (Uncut.typed-item class kind url t e) = ending e ∷ []
+
+-- what `fragments::write_.._part` judges of the whole: its values, for 8 ..
+abbrev pub permitted : Uncut → Bool
+permitted (Uncut.statement format t) = formatAllowed format
+permitted (Uncut.item t e) = true
+permitted (Uncut.typed-item class kind url t e) = allowed (Body.item class kind url t)
+
+-- .. and its URL, for 11
+abbrev pub encodable : Uncut → Bool
+encodable (Uncut.statement format t) = true
+encodable (Uncut.item t e) = true
+encodable (Uncut.typed-item class kind Url.absent t e) = true
+encodable (Uncut.typed-item class kind (Url.present url) t e) = leb (length url) 10227
+
+-- neither is refused, and the texts are of bytes, as those of slices are
+abbrev pub Sendable : Uncut → Type 0
+Sendable (Uncut.statement format t) = (formatAllowed format ≡ true) × IsBytes t
+Sendable (Uncut.item t e) = IsBytes t
+Sendable (Uncut.typed-item class kind url t e) = (allowed (Body.item class kind url t) ≡ true) × Bounded (Body.item class kind url t) × UrlFits url
+
+-- each message has room in the output that it is written into
+abbrev pub Roomy : Uncut → (ℕ → List ℕ) → Type 0
+Roomy u outs = (k : ℕ) (m : Message) → getElem? (cut u ++ end u) k ≡ some m → length (encode m) ≤ length (outs k)
+
+-- an output behind the writing of part k
+abbrev pub partBytes : Uncut → ℕ → List ℕ → List ℕ
+partBytes u k out = partLeft out (getElem? (cut u) k) (partWritten (permitted u) (encodable u) (cut u) k (length out))
+
+-- so many parts from number k on, each in an output of its own
+abbrev pub partsBytes : Uncut → (ℕ → List ℕ) → ℕ → ℕ → List (List ℕ)
+partsBytes u outs k zero = []
+partsBytes u outs k (suc n) = partBytes u k (outs k) ∷ partsBytes u outs (suc k) n
+
+-- an output behind the writing of a message
+abbrev pub messageBytes : List ℕ → Message → List ℕ
+messageBytes out m = left out m (written (length out) m)
+
+-- all that is sent
+abbrev pub sent : Uncut → (ℕ → List ℕ) → List (List ℕ)
+sent u outs = partsBytes u outs 0 (count u) ++ map (messageBytes (outs (count u))) (end u)
+
+-- what was read is joined, and the calls behind it go on from there; bytes that reading refuses are not joined
+abbrev pub joinedRead : (Assembly → List ℕ → Run) → Assembly → List ℕ → Answer → Run
+joinedRead more a d (Answer.refused r) = after (Reply.number (numberOf r)) (more a d)
+joinedRead more a d (Answer.accepted m n) = after (reply (joined a (length d) m .answer)) (more (joined a (length d) m .assembly) (stored a d m))
+
+-- byte strings read by their side one after another, and each message, by the places of its fields, joined to what the last call left
+unfoldable pub joinedFrom : Side → List (List ℕ) → Assembly → List ℕ → Run
+joinedFrom side [] a d = record { assembly = a; buffer = d; replies = [] }
+joinedFrom side (s ∷ ss) a d = joinedRead (joinedFrom side ss) a d (meaning s (located (reading side s)))
+
+-- what joining all that is sent answers and leaves, from an opening with a buffer d
+abbrev pub rejoined : Uncut → (ℕ → List ℕ) → List ℕ → Run
+rejoined u outs d = joinedFrom (sender u) (sent u outs) (opened (opens u)) d
+
+-- what each message adds to the text
+abbrev pub texts : Uncut → List (List ℕ)
+texts u = map (λ (m : Message). textOf (m .body)) (cut u ++ end u)
+
+pub record Returned (u : Uncut) (outs : ℕ → List ℕ) (d : List ℕ) : Type 0 where
+  -- where the text fits, each byte string but the last is taken, the last hands over that many bytes, and the assembly is closed ..
+  pub fits : length (text u) ≤ length d → rejoined u outs d ≡ record {
+    assembly = closed;
+    buffer = fronted d (text u);
+    replies = replicate (length (sent u outs) - 1) Reply.taken ++ (Reply.whole (told u) (length (text u)) ∷ []);
+  }
+  -- .. and the front part of the buffer is the text
+  pub handed : length (text u) ≤ length d → take (length (text u)) (rejoined u outs d .buffer) ≡ text u
+  -- where it does not, 12 from the part that would overrun on, for the end too; the front of the buffer keeps what was gathered before it
+  pub overruns : length d < length (text u) → rejoined u outs d .replies ≡ shortReplies (length d) (texts u)
+  pub kept : length d < length (text u) → rejoined u outs d .buffer ≡ fronted d (shortText (length d) (texts u))
+  pub marked : length d < length (text u) → rejoined u outs d .assembly .overflowed ≡ true
