@@ -29,7 +29,7 @@ T-true true g = refl
 T-true false g = absurd g
 
 -- a test made only where another holds
-pub T-both : (s t : Bool) → T (if s t false) → T s × T t
+T-both : (s t : Bool) → T (if s t false) → T s × T t
 T-both true t g = (tt, g)
 T-both false t g = absurd g
 
@@ -39,13 +39,13 @@ unfolding allBytes
 bytes-all [] h = refl
 bytes-all (x ∷ s) h = rw (lt-ltb x 256 (h 0)) (bytes-all s (λ i. h (suc i)))
 
-pub all-bytes : (s : List ℕ) → T (allBytes s) → IsBytes s
+all-bytes : (s : List ℕ) → T (allBytes s) → IsBytes s
 unfolding allBytes
 all-bytes [] g i = omega arith
 all-bytes (x ∷ s) g zero = ltb-true x 256 (T-true (ltb x 256) (T-both (ltb x 256) (allBytes s) g .0))
 all-bytes (x ∷ s) g (suc i) = all-bytes s (T-both (ltb x 256) (allBytes s) g .1) i
 
--- what passes the test of what is sent: the table's shape, allowed values, and at most 10,240 bytes
+-- a body that passes the test of what is sent is bytes
 pub sent-bytes : (k : ℕ) (b : Body) → T (published k b) → IsBytes (bodyBytes b)
 unfolding published
 sent-bytes k b g =

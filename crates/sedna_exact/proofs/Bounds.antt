@@ -1,4 +1,4 @@
--- Bytes in bounds: a body's encoding is bytes exactly when each of its fields is in bounds.
+-- Bounds: what makes an encoding bytes, field by field.
 use mathlib.Core.List.{List, [], _∷_, _++_}
 use mathlib.Core.Logic.{_↔_}
 use Prim.Native.Nat.{ℕ, zero, suc, _≤_, _<_}
@@ -12,12 +12,12 @@ use Rattle.sedna_exact.specs.Pieces.{Piece, pieceBytes, piecesBytes, pie
 use Rattle.sedna_exact.proofs.Bytes.{bytes-front, bytes-behind}
 use Rattle.sedna_exact.proofs.Pieces.{pieces-bytes}
 
-pub bytes-append : (u v : List ℕ) → IsBytes u → IsBytes v → IsBytes (u ++ v)
+bytes-append : (u v : List ℕ) → IsBytes u → IsBytes v → IsBytes (u ++ v)
 bytes-append [] v f g i = g i
 bytes-append (x ∷ u) v f g zero = f 0
 bytes-append (x ∷ u) v f g (suc i) = bytes-append u v (λ j. f (suc j)) g i
 
-pub bytes-cons : (x : ℕ) (s : List ℕ) → x < 256 → IsBytes s → IsBytes (x ∷ s)
+bytes-cons : (x : ℕ) (s : List ℕ) → x < 256 → IsBytes s → IsBytes (x ∷ s)
 bytes-cons x s l h zero = l
 bytes-cons x s l h (suc i) = h i
 
@@ -32,7 +32,7 @@ int-bytes n h (suc (suc zero)) = omega arith
 int-bytes n h (suc (suc (suc zero))) = omega arith
 int-bytes n h (suc (suc (suc (suc i)))) = omega arith
 
-pub string-bytes : (t : List ℕ) → length t ≤ 4294967295 → IsBytes t → IsBytes (string t)
+string-bytes : (t : List ℕ) → length t ≤ 4294967295 → IsBytes t → IsBytes (string t)
 unfolding string
 string-bytes t l h = bytes-cons 0 (int (length t) ++ t) (omega arith) (bytes-append (int (length t)) t (int-bytes (length t) l) h)
 
@@ -62,6 +62,7 @@ unfolding piecesBytes
 all-bounds [] h = tt
 all-bounds (p ∷ ps) h = (piece-bounds p (bytes-front (pieceBytes p) (piecesBytes ps) h), all-bounds ps (bytes-behind (pieceBytes p) (piecesBytes ps) h))
 
+-- of a body that is short enough: its encoding is bytes exactly when each field is in bounds
 pub bounds : (b : Body) → length (bodyBytes b) ≤ 10240 → IsBytes (bodyBytes b) ↔ Bounded b
 bounds b short = (
   λ h. all-bounds (piecesOf b) (rw (pieces-bytes b) h),
