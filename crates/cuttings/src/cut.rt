@@ -1,9 +1,9 @@
 // A text cut, written, read back and joined.
+use crate::hand::join_said;
 use crate::join::opened;
 use crate::text::MOST;
 use crate::text::number;
 use crate::text::refused;
-use crate::text::say_answer;
 use crate::text::say_refusal;
 use crate::text::say_value;
 use crate::text::value;
@@ -63,10 +63,7 @@ fn joined(a: Assembly, buffer: &mut [u8], bytes: &[u8], text: &[u8]) -> Assembly
     match sedna_read::read(side, bytes) {
         Reading::Refused(r) => refused(a, r),
         Reading::Message { places, .. } => {
-            let j = assembly::join(a, buffer, instruction, places, bytes);
-            let answer = j.answer;
-            say_answer(answer, buffer, text);
-            j.assembly
+            join_said(a, buffer, instruction, places, bytes, text)
         }
     }
 }

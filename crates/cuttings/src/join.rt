@@ -1,7 +1,7 @@
 // Messages joined as they are told, whatever a reader would say of them.
+use crate::hand::join_said;
 use crate::text::MOST;
 use crate::text::number;
-use crate::text::say_answer;
 use crate::text::value;
 use assembly::Assembly;
 use lines::cut::behind;
@@ -72,10 +72,7 @@ fn take(a: Assembly, buffer: &mut [u8], pattern: &[u8], word: &[u8]) -> Assembly
     let start = a.held;
     let len = number(front(rest, b':'), 0);
     let places = places(instruction as u32, Place { start, len }, behind(rest, b':'));
-    let j = assembly::join(a, buffer, instruction as u32, places, pattern);
-    let answer = j.answer;
-    say_answer(answer, buffer, pattern);
-    j.assembly
+    join_said(a, buffer, instruction as u32, places, pattern, pattern)
 }
 
 // The words are OPENING ROOM M M ..

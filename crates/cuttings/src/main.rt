@@ -10,10 +10,12 @@
 // joins messages as they are told. OPENING is statement, item, typed or none; so may M be, and opens
 // anew, or it is INSTRUCTION:LENGTH:VALUE:VALUE. The values are a format, a class and a type, or a
 // version; left out they are 0, 1 and 24, or 4 and 0. What is no byte counts as 255.
-// A join is answered by ok, !REFUSAL, or =LENGTH,VALUE,VALUE for what is handed over, with same or
-// other for whether it is the text. Lengths and rooms go up to 32,768; ? stands behind what is not
-// understood. An empty line and one that starts with # are printed as they are.
+// A join is answered by ok, !REFUSAL, or =LENGTH,VALUE,VALUE for what is finished, with same or other
+// for whether the part of the buffer that is handed over is the text. Lengths and rooms go up to
+// 32,768; ? stands behind what is not understood. An empty line and one that starts with # are printed
+// as they are.
 mod cut;
+mod hand;
 mod join;
 mod text;
 

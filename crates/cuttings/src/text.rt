@@ -27,9 +27,9 @@ pub fn refused(a: Assembly, r: Refusal) -> Assembly {
     a
 }
 
-// What is handed over of the buffer, and whether the text starts with it.
-fn say_whole(len: usize, buffer: &[u8], text: &[u8]) {
-    if same(first(buffer, len), first(text, len)) {
+// Whether the part that was handed over is the first so many bytes of the text, and how many.
+fn say_whole(len: usize, part: &[u8], text: &[u8]) {
+    if same(part, first(text, len)) {
         say(b" same ");
     } else {
         say(b" other ");
@@ -37,18 +37,18 @@ fn say_whole(len: usize, buffer: &[u8], text: &[u8]) {
     say_value(b'=', len);
 }
 
-// What a join answers.
-pub fn say_answer(answer: Answer, buffer: &[u8], text: &[u8]) {
+// What a join answers, with the part that it hands over.
+pub fn say_answer(answer: Answer, part: &[u8], text: &[u8]) {
     match answer {
         Answer::Part => say(b" ok"),
         Answer::Refused(r) => say_refusal(r),
-        Answer::Item { len } => say_whole(len, buffer, text),
+        Answer::Item { len } => say_whole(len, part, text),
         Answer::Statement { format, len } => {
-            say_whole(len, buffer, text);
+            say_whole(len, part, text);
             say_value(b',', format as usize);
         }
         Answer::TypedItem { class, kind, len } => {
-            say_whole(len, buffer, text);
+            say_whole(len, part, text);
             say_value(b',', class as usize);
             say_value(b',', kind as usize);
         }
