@@ -3,8 +3,11 @@
 // VERSION is 1 to 4, and SessionParameters names it. A word is an instruction's number, `start` for
 // the six messages of a good start, or `in` for these and a transaction begun. Each message is well
 // formed and comes from its own side. Behind an instruction stands `!N` where the step refused it
-// with N; the session then goes on as it was. An empty line and one that starts with # are printed
-// as they are, any other line with `?`. Behind 4,096 bytes a line counts as a new one.
+// with N; the session then goes on as it was. Each message goes to both forms of the step, by value and
+// over a lent record; ` ?forms` stands behind one where they differ. An empty line and one that starts
+// with # are printed as they are, any other line with `?`. Behind 4,096 bytes a line counts as a new
+// one.
+mod forms;
 mod message;
 mod replay;
 mod text;

@@ -1,4 +1,5 @@
-// A small well formed message of each instruction, and the step on it.
+// A small well formed message of each instruction, and both forms of the step on it.
+use crate::forms::agree;
 use lines::cut::first;
 use lines::print::decimal;
 use lines::print::say;
@@ -21,8 +22,9 @@ fn write(out: &mut [u8], instruction: u32, shape: Shape, version: u8) -> Written
     }
 }
 
-// Offers an instruction from the side that sends it, and prints it with the refusal, if any. One
-// that the table lacks does not get here: `replay::readable` is asked first.
+// Offers an instruction from the side that sends it to both forms of the step, and prints it with the
+// refusal, if any, and whether the forms differ. One that the table lacks does not get here:
+// `replay::readable` is asked first.
 pub fn offer(session: Session, version: u8, instruction: u32) -> Session {
     let mut space = [0u8; 64];
     let Found::Known(side, shape) = sedna::find(instruction) else {
@@ -31,13 +33,18 @@ pub fn offer(session: Session, version: u8, instruction: u32) -> Session {
     let Written::Bytes(n) = write(&mut space, instruction, shape, version) else {
         return session;
     };
-    let after = session::step(session, side, first(&space, n));
+    let bytes = first(&space, n);
+    let after = session::step(session, side, bytes);
+    let kept = session_cell::step_kept(session, side, bytes);
     say(b" ");
     decimal(instruction as u64);
     let answer = after.answer;
     if let Reading::Refused(r) = answer {
         say(b"!");
         decimal(wire::number(r) as u64);
+    }
+    if !agree(after, kept) {
+        say(b" ?forms");
     }
     after.session
 }
