@@ -1,0 +1,332 @@
+-- The calls by which programs in C and Rust reach BaseX (`kdr_basex_..`): what each answers and leaves, turned back into what it means
+-- by the names in the header `bindings/c/keddorimp.h`, is what was read or written.
+--
+-- `Called` and the definitions behind it have the right sides of the contracts. For each call a record or a type says what right is, and
+-- `BaseXCalls`, at the end, that every call comes out right, whatever it is lent.
+use mathlib.Core.Bool.{Bool, true, false}
+use mathlib.Core.List.{List, [], _∷_, _++_, flatten}
+use mathlib.Core.Logic.{_⊎_}
+use mathlib.Core.Path.{_≡_}
+use Prim.Native.Nat.{ℕ, zero, suc, _+_, _-_, _≤_, _<_}
+use lib.Dec.{ltb, eqb}
+use lib.ListN.{length, take, drop, getD}
+use Rattle.wire.specs.Bytes.{if, over, placed}
+use Rattle.wire.specs.Fields.{Got}
+use Rattle.wire.specs.declared.Refusal.{Refusal}
+use Rattle.wire.specs.declared.Refusal.the-variants.{MoreBytes, UnknownInstruction, ValueNotAllowed, NoRoom, BadEscape}
+use Rattle.wire.specs.Refusals.{numberOf}
+use Rattle.basex_string.specs.Answers as strings-left
+use Rattle.basex_string.specs.Answers.{spelling}
+use Rattle.basex_string.specs.Scan as strings
+use Rattle.basex_string.specs.Strings.{string}
+use Rattle.basex.specs.declared.Found.the-variants.{Known, Unknown}
+use Rattle.basex.specs.declared.Reply.{Reply}
+use Rattle.basex.specs.Kinds.{findOf, listed, isFull}
+use Rattle.basex.specs.Request as request
+use Rattle.basex.specs.Request.{Request}
+use Rattle.basex.specs.Response as response
+use Rattle.basex.specs.Response.{Item, Response, itemBytes, ItemAllowed, Stands}
+use Rattle.basex_request.specs.Calls.{padded}
+use Rattle.basex_request.specs.Reading as requests
+use Rattle.basex_request.specs.Reading.{kindOf, textsOf}
+use Rattle.basex_request.specs.Writing as requesting
+use Rattle.basex_response.specs.Reading as responses
+use Rattle.basex_response.specs.Reading.{allTexts}
+use Rattle.basex_response.specs.Writing.{itemOf, fullOf, itemWritten, endWritten, endBytes, leftAt}
+use Rattle.basex_exact.specs.Calls.{listedOf, uriOf, textOf}
+use Rattle.basex_exact.specs.Exactly.{Cut, partsOf, Means, Unwritten, MeansItem, ItemUnwritten, MeansEnd, EndUnwritten}
+use Rattle.basex_exact.specs.Moments.{Encoded, Begun, nextBytes, NextAllowed, BadId, BadItem}
+use Rattle.basex_c.specs.Codes.{Outcome, code, toldIn, storedIn}
+use Rattle.basex_c.specs.Told.{spelledCode, judging, decoding, requestRead, responseRead, itemRead}
+
+-- KDR_REFUSED: what a refusal's number stands on top of
+abbrev pub refusedFrom : ℕ
+refusedFrom = 9223372036854775808
+
+-- what kdr_refused and kdr_refusal make of an answer: a count, or a refusal's number
+pub data Answer : Type 0 where
+  count : ℕ → Answer
+  refusal : ℕ → Answer
+
+abbrev pub answerOf : ℕ → Answer
+answerOf a = if (ltb a refusedFrom) (Answer.count a) (Answer.refusal (a - refusedFrom))
+
+-- a slice that can be lent: none in memory has 2^63 elements
+abbrev pub Lendable : List ℕ → Type 0
+Lendable s = length s < refusedFrom
+
+-- what a call answers, and what it leaves in the lent output and in the lent numbers; none where it is lent none
+pub record Called : Type 0 where
+  pub answer : Answer
+  pub out : List ℕ
+  pub told : List ℕ
+
+-- the right sides of the contracts, call by call: first of those that tell numbers ..
+abbrev pub telling : List ℕ → List ℕ → List ℕ → Outcome → Called
+telling out stored told o = record { answer = answerOf (code o); out = storedIn out stored o; told = toldIn told o }
+
+abbrev pub stringAtCalled : List ℕ → ℕ → List ℕ → Called
+stringAtCalled s at told = telling [] [] told (judging s at (length told))
+
+abbrev pub decodeCalled : List ℕ → ℕ → List ℕ → ℕ → List ℕ → Called
+decodeCalled s at out to told = telling out (strings-left.left out to (strings.reading (drop at s))) told (decoding s at (length out) to (length told))
+
+abbrev pub readRequestCalled : List ℕ → List ℕ → List ℕ → Called
+readRequestCalled s out told = telling out (requests.left out (requests.reading s)) told (requestRead s (length out) (length told))
+
+abbrev pub readResponseCalled : ℕ → List ℕ → List ℕ → List ℕ → Called
+readResponseCalled kind s out told = telling out (responses.left out (responses.reading kind s)) told (responseRead kind s (length out) (length told))
+
+abbrev pub itemCalled : ℕ → List ℕ → ℕ → List ℕ → Called
+itemCalled kind s at told = telling [] [] told (itemRead kind s at (length told))
+
+-- .. and then of those that write
+abbrev pub writing : ℕ → List ℕ → Called
+writing answer out = record { answer = answerOf answer; out = out; told = [] }
+
+abbrev pub writeStringCalled : List ℕ → ℕ → List ℕ → Called
+writeStringCalled out at text = writing (spelledCode (spelling (length out) at text)) (placed out at (string text))
+
+abbrev pub writeRequestCalled : List ℕ → ℕ → List (List ℕ) → Called
+writeRequestCalled out kind ts =
+    writing (spelledCode (requesting.written (length out) kind ts))
+    (requesting.left out kind ts (requesting.written (length out) kind ts))
+
+abbrev pub writeItemCalled : List ℕ → ℕ → ℕ → ℕ → List ℕ → List ℕ → Called
+writeItemCalled out at kind id uri text =
+    writing (spelledCode (itemWritten (length out) at kind id uri text))
+    (leftAt out at (itemBytes (itemOf (fullOf (findOf kind)) id uri text)) (itemWritten (length out) at kind id uri text))
+
+abbrev pub writeEndCalled : List ℕ → ℕ → ℕ → List ℕ → List ℕ → ℕ → List ℕ → Called
+writeEndCalled out at kind first second status error =
+    writing (spelledCode (endWritten (length out) at kind first second status error))
+    (leftAt out at (endBytes (findOf kind) first second status error) (endWritten (length out) at kind first second status error))
+
+-- "A refusal returns its number alone": everything that was lent is as it was
+abbrev pub refusedWith : Refusal → List ℕ → List ℕ → Called
+refusedWith r out told = record { answer = Answer.refusal (numberOf r); out = out; told = told }
+
+-- a call that was lent an output and numbers came out right: refused where a refusal is due, or accepted
+pub data Right (Due : Refusal → Type 0) (Accepted : Called → Type 0) (out told : List ℕ) (c : Called) : Type 0 where
+  refused : (r : Refusal) → Due r → c ≡ refusedWith r out told → Right Due Accepted out told c
+  accepted : Accepted c → Right Due Accepted out told c
+
+-- the refusal that is due for a call of reading: what reading refuses, and "with 10 last" where it reads well and what it reads has no place
+pub data Unread {A : Type 0} (x : Got A) (NoPlace : A → Type 0) : Refusal → Type 0 where
+  unread : (r : Refusal) → x ≡ Got.refused r → Unread x NoPlace r
+  no-room : (a : A) (rest : List ℕ) → x ≡ Got.got a rest → NoPlace a → Unread x NoPlace NoRoom
+
+-- an output that has no room for so many bytes, or fewer lent numbers than are told
+abbrev pub NoPlace : List ℕ → ℕ → List ℕ → ℕ → Type 0
+NoPlace out bytes told fields = (length out < bytes) ⊎ (length told < fields)
+
+-- so many numbers are told: as many are lent, and those behind them are as they were
+pub record Fields (n : ℕ) (before after : List ℕ) : Type 0 where
+  pub enough : n ≤ length before
+  pub long : length after ≡ length before
+  pub behind : drop n after ≡ drop n before
+
+-- enum kdr_basex_string_field, KDR_BASEX_STRING_LENGTH: how long a string is, decoded
+abbrev pub stringLength : List ℕ → ℕ
+stringLength told = getD told 0 0
+
+-- the string that starts at `at`: how many bytes it takes, and how long it is, decoded
+pub record StringRead (s : List ℕ) (at : ℕ) (told : List ℕ) (c : Called) : Type 0 where
+  pub text : List ℕ
+  pub rest : List ℕ
+  pub stands : drop at s ≡ string text ++ rest
+  pub counted : c .answer ≡ Answer.count (length (string text))
+  pub long : stringLength (c .told) ≡ length text
+  pub fields : Fields 1 told (c .told)
+
+-- .. and decoded into the output from `to` on: it is cut out there by its length, and nothing else has changed
+pub record Decoded (s : List ℕ) (at : ℕ) (out : List ℕ) (to : ℕ) (told : List ℕ) (c : Called) : Type 0 where
+  pub read : StringRead s at told c
+  pub fits : to + length (read .text) ≤ length out
+  pub there : take (stringLength (c .told)) (drop to (c .out)) ≡ read .text
+  pub stored : c .out ≡ over out to (read .text)
+
+-- enum kdr_basex_request_field: KDR_BASEX_REQUEST_KIND, KDR_BASEX_REQUEST_LENGTH_1 to _4
+pub record RequestNumbers : Type 0 where
+  pub kind : ℕ
+  pub length-1 : ℕ
+  pub length-2 : ℕ
+  pub length-3 : ℕ
+  pub length-4 : ℕ
+
+abbrev pub requestNumbers : List ℕ → RequestNumbers
+requestNumbers t = record { kind = getD t 0 0; length-1 = getD t 1 0; length-2 = getD t 2 0; length-3 = getD t 3 0; length-4 = getD t 4 0 }
+
+-- the texts of a request cut out of the output by the numbers told: one behind the other in front of it
+abbrev pub RequestTexts : RequestNumbers → List ℕ → List (List ℕ) → Type 0
+RequestTexts n out ts = Cut ts out (n .length-1) (n .length-2) (n .length-3) (n .length-4)
+
+-- a published request whose encoding stands in front: its kind, and its texts cut out of the output by the lengths told
+pub record RequestRead (s out told : List ℕ) (c : Called) : Type 0 where
+  pub value : Request
+  pub rest : List ℕ
+  pub published : request.Published value
+  pub stands : s ≡ request.encode value ++ rest
+  pub counted : c .answer ≡ Answer.count (length (request.encode value))
+  pub named : requestNumbers (c .told) .kind ≡ kindOf value
+  pub texts : RequestTexts (requestNumbers (c .told)) (c .out) (padded (textsOf value))
+  pub fields : Fields 5 told (c .told)
+  pub fits : length (flatten (textsOf value)) ≤ length out
+  pub stored : c .out ≡ over out 0 (flatten (textsOf value))
+
+-- enum kdr_basex_response_field: KDR_BASEX_RESPONSE_LENGTH_1 and _2, _ITEMS, _LISTED, _STATUS, _ERROR
+pub record ResponseNumbers : Type 0 where
+  pub length-1 : ℕ
+  pub length-2 : ℕ
+  pub items : ℕ
+  pub listed : ℕ
+  pub status : ℕ
+  pub error : ℕ
+
+abbrev pub responseNumbers : List ℕ → ResponseNumbers
+responseNumbers t = record { length-1 = getD t 0 0; length-2 = getD t 1 0; items = getD t 2 0; listed = getD t 3 0; status = getD t 4 0; error = getD t 5 0 }
+
+-- the texts of a response cut out of the output by the numbers told: the first, the second, those of the items together, and the error
+abbrev pub ResponseTexts : ResponseNumbers → List ℕ → List (List ℕ) → Type 0
+ResponseTexts n out ts = Cut ts out (n .length-1) (n .length-2) (n .listed) (n .error)
+
+-- a published response to the request whose encoding stands in front: its status, how many items, and its texts cut out of the output by the lengths told
+pub record ResponseRead (kind : ℕ) (s out told : List ℕ) (c : Called) : Type 0 where
+  pub value : Response
+  pub rest : List ℕ
+  pub stands : Stands kind value s rest
+  pub counted : c .answer ≡ Answer.count (length (response.encode (stands .reply) value))
+  pub items : responseNumbers (c .told) .items ≡ length (value .items)
+  pub status : responseNumbers (c .told) .status ≡ value .status
+  pub texts : ResponseTexts (responseNumbers (c .told)) (c .out) (partsOf value)
+  pub fields : Fields 6 told (c .told)
+  pub fits : length (flatten (allTexts value)) ≤ length out
+  pub stored : c .out ≡ over out 0 (flatten (allTexts value))
+
+-- enum kdr_basex_item_field: KDR_BASEX_ITEM_ID, _URI, _TEXT
+pub record ItemNumbers : Type 0 where
+  pub id : ℕ
+  pub uri : ℕ
+  pub text : ℕ
+
+abbrev pub itemNumbers : List ℕ → ItemNumbers
+itemNumbers t = record { id = getD t 0 0; uri = getD t 1 0; text = getD t 2 0 }
+
+-- the kind is that of a request whose response has items, with URIs or without
+pub record Lists (kind : ℕ) (full : Bool) : Type 0 where
+  pub strings : ℕ
+  pub reply : Reply
+  pub known : findOf kind ≡ Known strings reply
+  pub list : listed reply ≡ true
+  pub uris : isFull reply ≡ full
+
+-- the refusal that is due for an item, by the encodings, where s are the bytes from its place on and so many numbers are lent:
+-- "1 for no byte, 2, then fields left to right: 1, 8, and 13 as soon as the pair is there", "with 10 last"
+pub data ItemDue (kind : ℕ) (s : List ℕ) (numbers : ℕ) : Refusal → Type 0 where
+  -- 1 for no byte, whatever the kind
+  no-byte : s ≡ [] → ItemDue kind s numbers MoreBytes
+  -- 2 for a kind that is none, and 8 for one without items, at the first byte, whatever it is
+  unknown : 0 < length s → findOf kind ≡ Unknown → ItemDue kind s numbers UnknownInstruction
+  unlisted : 0 < length s → (n : ℕ) (reply : Reply) → findOf kind ≡ Known n reply → listed reply ≡ false → ItemDue kind s numbers ValueNotAllowed
+  -- 1: an item, or the 00 behind the last, is begun and not whole
+  more : (full : Bool) → Lists kind full → Begun (Encoded (NextAllowed full) nextBytes) s → ItemDue kind s numbers MoreBytes
+  -- "a type id (7-15 or 32-83, else 8)"
+  bad-id : (full : Bool) → Lists kind full → BadId s → ItemDue kind s numbers ValueNotAllowed
+  -- 13 in one of its strings
+  bad-pair : (full : Bool) → Lists kind full → BadItem full s → ItemDue kind s numbers BadEscape
+  -- 10: an item stands there, and fewer than three numbers are lent
+  no-room : (full : Bool) → Lists kind full → (i : Item) (rest : List ℕ) → ItemAllowed full i → s ≡ itemBytes i ++ rest → numbers < 3
+      → ItemDue kind s numbers NoRoom
+
+-- an item at `at`: how many bytes it takes, its id, and how long its URI and its text are
+pub record ItemRead (kind : ℕ) (s : List ℕ) (at : ℕ) (told : List ℕ) (c : Called) : Type 0 where
+  pub full : Bool
+  pub lists : Lists kind full
+  pub item : Item
+  pub rest : List ℕ
+  pub allowed : ItemAllowed full item
+  pub stands : drop at s ≡ itemBytes item ++ rest
+  pub counted : c .answer ≡ Answer.count (length (itemBytes item))
+  pub named : itemNumbers (c .told) .id ≡ item .id
+  pub uri : itemNumbers (c .told) .uri ≡ length (uriOf full item)
+  pub text : itemNumbers (c .told) .text ≡ length (textOf full item)
+  pub fields : Fields 3 told (c .told)
+
+-- the 00 behind the last item: 0, and nothing is told
+pub record ItemsEnd (kind : ℕ) (s : List ℕ) (at : ℕ) (told : List ℕ) (c : Called) : Type 0 where
+  pub full : Bool
+  pub lists : Lists kind full
+  pub rest : List ℕ
+  pub stands : drop at s ≡ 0 ∷ rest
+  pub counted : c .answer ≡ Answer.count 0
+  pub untold : c .told ≡ told
+
+-- an item by the numbers told, its texts cut out of the output from `to` on, and what comes then; none at the end of the items or a refusal
+abbrev pub onward : Bool → List ℕ → ℕ → ℕ → Answer → ItemNumbers → (ℕ → ℕ → List Item) → List Item
+onward full out at to (Answer.refusal r) t then = []
+onward full out at to (Answer.count n) t then =
+    if (eqb n 0) []
+    (itemOf full (t .id) (take (t .uri) (drop to out)) (take (t .text) (drop (to + t .uri) out)) ∷ then (at + n) (to + (t .uri + t .text)))
+
+-- the items that up to n calls of kdr_basex_item tell, the first at `at` in the bytes and each other as far behind the one before as that has bytes
+unfoldable pub walked : ℕ → ℕ → List ℕ → List ℕ → List ℕ → ℕ → ℕ → List Item
+walked zero kind s out told at to = []
+walked (suc n) kind s out told at to =
+    onward (fullOf (findOf kind)) out at to (itemCalled kind s at told .answer) (itemNumbers (itemCalled kind s at told .told)) (walked n kind s out told)
+
+-- bytes written from `at` on: as many as are counted, and nothing else has changed
+pub record Written (Is : List ℕ → Type 0) (out : List ℕ) (at : ℕ) (c : Called) : Type 0 where
+  pub bytes : List ℕ
+  pub is : Is bytes
+  pub counted : c .answer ≡ Answer.count (length bytes)
+  pub fits : at + length bytes ≤ length out
+  pub there : c .out ≡ over out at bytes
+
+-- the encoding of the published request that a kind and texts stand for; of the item; of the response without its items
+abbrev pub RequestBytes : ℕ → List (List ℕ) → List ℕ → Type 0
+RequestBytes kind ts e = (q : Request) × Means kind ts q × request.Published q × (e ≡ request.encode q)
+
+abbrev pub ItemBytes : ℕ → ℕ → List ℕ → List ℕ → List ℕ → Type 0
+ItemBytes kind id uri text e = (i : Item) × MeansItem kind id uri text i × (e ≡ itemBytes i)
+
+abbrev pub EndBytes : ℕ → List ℕ → List ℕ → ℕ → List ℕ → List ℕ → Type 0
+EndBytes kind first second status error e =
+    (reply : Reply) × (r : Response) × MeansEnd kind first second status error reply r × (e ≡ response.encode reply r)
+
+pub record BaseXCalls : Type 0 where
+  -- kdr_basex_string_len is never refused: for texts below 2^62 bytes its answer is a count as any other
+  pub string-len : (text : List ℕ) → length text < 4611686018427387904 → answerOf (length (string text)) ≡ Answer.count (length (string text))
+  pub write-string : (out : List ℕ) → Lendable out → (at : ℕ) (text : List ℕ)
+      → Right (λ r. (r ≡ NoRoom) × (length out < at + length (string text))) (Written (λ e. e ≡ string text) out at)
+      out [] (writeStringCalled out at text)
+  pub string-at : (s : List ℕ) → Lendable s → (at : ℕ) (told : List ℕ)
+      → Right (Unread (strings.reading (drop at s)) (λ t. length told < 1)) (StringRead s at told)
+      [] told (stringAtCalled s at told)
+  pub decode : (s : List ℕ) → Lendable s → (at : ℕ) (out : List ℕ) (to : ℕ) (told : List ℕ)
+      → Right (Unread (strings.reading (drop at s)) (λ t. NoPlace out (to + length t) told 1)) (Decoded s at out to told)
+      out told (decodeCalled s at out to told)
+  pub read-request : (s : List ℕ) → Lendable s → (out told : List ℕ)
+      → Right (Unread (requests.reading s) (λ q. NoPlace out (length (flatten (textsOf q))) told 5)) (RequestRead s out told)
+      out told (readRequestCalled s out told)
+  pub write-request : (out : List ℕ) → Lendable out → (kind : ℕ) (a b c d : List ℕ)
+      → Right (Unwritten (length out) kind (a ∷ b ∷ c ∷ d ∷ [])) (Written (RequestBytes kind (a ∷ b ∷ c ∷ d ∷ [])) out 0)
+      out [] (writeRequestCalled out kind (a ∷ b ∷ c ∷ d ∷ []))
+  pub read-response : (kind : ℕ) (s : List ℕ) → Lendable s → (out told : List ℕ)
+      → Right (Unread (responses.reading kind s) (λ r. NoPlace out (length (flatten (allTexts r))) told 6)) (ResponseRead kind s out told)
+      out told (readResponseCalled kind s out told)
+  -- an item, or the end of them; and a refusal exactly where it is due
+  pub item : (kind : ℕ) (s : List ℕ) → Lendable s → (at : ℕ) (told : List ℕ)
+      → Right (ItemDue kind (drop at s) (length told)) (λ c. ItemRead kind s at told c ⊎ ItemsEnd kind s at told c)
+      [] told (itemCalled kind s at told)
+  pub item-due : (kind : ℕ) (s : List ℕ) (at : ℕ) (told : List ℕ) (r : Refusal) → ItemDue kind (drop at s) (length told) r
+      → itemCalled kind s at told ≡ refusedWith r [] told
+  -- the items of a response that was read, walked from the front, with their texts out of the output that reading it left
+  pub items-walked : (kind : ℕ) (s : List ℕ) → Lendable s → listedOf (findOf kind) ≡ true
+      → (r : Response) (rest out told : List ℕ) → Stands kind r s rest → length (flatten (allTexts r)) ≤ length out → 3 ≤ length told
+      → walked (suc (length (r .items))) kind s (over out 0 (flatten (allTexts r))) told 0 0 ≡ r .items
+  pub write-item : (out : List ℕ) → Lendable out → (at kind id : ℕ) (uri text : List ℕ)
+      → Right (ItemUnwritten (length out) at kind id uri text) (Written (ItemBytes kind id uri text) out at)
+      out [] (writeItemCalled out at kind id uri text)
+  pub write-end : (out : List ℕ) → Lendable out → (at kind : ℕ) (first second : List ℕ) (status : ℕ) (error : List ℕ)
+      → Right (EndUnwritten (length out) at kind first second status error) (Written (EndBytes kind first second status error) out at)
+      out [] (writeEndCalled out at kind first second status error)
