@@ -5,4 +5,6 @@ pub mod Demand3
 pub mod Examples
 pub mod Exports
 pub mod Refused
+pub mod SednaCalls
+pub mod Tells
 pub mod Transcript

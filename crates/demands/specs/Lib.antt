@@ -1,7 +1,10 @@
+pub mod Answered
 pub mod BaseXCalls
 pub mod Demand1
 pub mod Demand2
 pub mod Demand3
 pub mod Examples
 pub mod Exports
+pub mod Header
+pub mod SednaCalls
 pub mod Transcript

@@ -1,0 +1,153 @@
+-- What the calls of reading and writing tell is what they mean.
+use mathlib.Core.Bool.{Bool, true, false}
+use mathlib.Core.List.{List, _∷_}
+use mathlib.Core.Option.{some}
+use mathlib.Core.Path.{_≡_, refl, sym, subst}
+use Prim.Native.Nat.{ℕ, _+_, _-_, _≤_}
+use native.Mathlib.Omega.{arith}
+use lib.Dec.{eqb, ltb}
+use lib.ListN.{length, drop, getElem?}
+use borrow.Author.Tests.{le-ltb, ltb-true, ltb-false, eqb-true, eqb-false}
+use Rattle.wire.specs.Bytes.{IsBytes, if}
+use Rattle.wire.specs.declared.Refusal.the-variants.{UnknownInstruction, ValueNotAllowed, NoRoom, NoEncoding}
+use Rattle.wire.specs.Refusals.{refusalCode}
+use Rattle.sedna.specs.declared.Fit.{Fit}
+use Rattle.sedna.specs.declared.Fit.the-variants as fit
+use Rattle.sedna.specs.declared.Found.{Found}
+use Rattle.sedna.specs.declared.Found.the-variants.{Known, Unknown}
+use Rattle.sedna.specs.declared.Shape.{Shape}
+use Rattle.sedna.specs.declared.Shape.the-variants.{Options}
+use Rattle.sedna.specs.declared.Side.{Side}
+use Rattle.sedna.specs.declared.Side.the-variants.{Client, Server}
+use Rattle.sedna.specs.Kinds.{sameShape}
+use Rattle.sedna.specs.Message.{Pair, Body, message}
+use Rattle.sedna.specs.Table.{findOf, fitOf}
+use Rattle.sedna_read.specs.declared.OptionPlace.{OptionPlace}
+use Rattle.sedna_read.specs.declared.OptionPlace.the-variants as place
+use Rattle.sedna_read.specs.declared.Reading.the-variants as reads
+use Rattle.sedna_read.specs.Meaning.{partOf, optionIn}
+use Rattle.sedna_read.specs.Places.{placesOf, located, optionAt}
+use Rattle.sedna_read.specs.Reading.{Answer, reading}
+use Rattle.sedna_write.specs.declared.Written.the-variants as wrote
+use Rattle.sedna_write.specs.Writing.{judgedAs, judgement}
+use Rattle.sedna_c.specs.Codes.{writtenCode, sideReading, readCode, fieldsLeft, optionCode, optionLeft}
+use Rattle.sedna_exact.proofs.Due.{lacking}
+use Rattle.sedna_exact.proofs.Options.{option-exact}
+use Rattle.sedna_exact.proofs.Table.{listed-find}
+use Rattle.demands.specs.Answered.{answered}
+use Rattle.demands.specs.Header.{_at_, slice, SideOf, client, server, START-1, LENGTH-1, COUNT}
+use Rattle.demands.specs.SednaCalls.{ReadRight, OptionRight, OptionCalled, writtenAs, ListsRefused, SednaCalls}
+use Rattle.demands.proofs.Tells.{counted, refused, read-count, tells, behind}
+
+-- a side's number, 1 or 2, or none
+pub data Sides (n : ℕ) : Type 0 where
+  one : n ≡ 1 → Sides n
+  two : eqb n 1 ≡ false → n ≡ 2 → Sides n
+  neither : eqb n 1 ≡ false → eqb n 2 ≡ false → ((side : Side) → ¬ SideOf n side) → Sides n
+
+pub sides : (n : ℕ) → Sides n
+sides n = by (eqb n 1) refl (eqb n 2) refl
+  where
+    by : (a : Bool) → eqb n 1 ≡ a → (b : Bool) → eqb n 2 ≡ b → Sides n
+    by true is b q = Sides.one (eqb-true n 1 is)
+    by false other true is = Sides.two other (eqb-true n 2 is)
+    by false other false none = Sides.neither other none nobody
+      where
+        no-side : (k : ℕ) (side : Side) → SideOf k side → k ≡ n → ⊥
+        no-side k side client e = eqb-false n 1 other (sym e)
+        no-side k side server e = eqb-false n 2 none (sym e)
+
+        nobody : (side : Side) → ¬ SideOf n side
+        nobody side x = no-side n side x refl
+
+pub is-client : {n : ℕ} → n ≡ 1 → SideOf n Client
+is-client e = subst (λ (k : ℕ). SideOf k Client) (sym e) client
+
+pub is-server : {n : ℕ} → n ≡ 2 → SideOf n Server
+is-server e = subst (λ (k : ℕ). SideOf k Server) (sym e) server
+
+-- what a side's reading is
+pub side-read : (side : ℕ) (s : Side) (bytes : List ℕ) → SideOf side s → sideReading side bytes ≡ located (reading s bytes)
+unfolding sideReading
+side-read side s bytes client = refl
+side-read side s bytes server = refl
+
+side-nobody : (side : ℕ) (bytes : List ℕ) → eqb side 1 ≡ false → eqb side 2 ≡ false → sideReading side bytes ≡ reads.Refused ValueNotAllowed
+unfolding sideReading
+side-nobody side bytes o p = rw (o, p)
+
+module _ (side : ℕ) (bytes lent : List ℕ) (are : IsBytes bytes) where
+  by-side : (s : Side) → SideOf side s → ReadRight side bytes lent (answered (readCode (located (reading s bytes)) (length lent))) (fieldsLeft (located (reading s bytes)) lent)
+  by-side s is = by (reading s bytes) refl (ltb (length lent) 10) refl
+    where
+      by : (a : Answer) → reading s bytes ≡ a → (t : Bool) → ltb (length lent) 10 ≡ t → ReadRight side bytes lent (answered (readCode (located a) (length lent))) (fieldsLeft (located a) lent)
+      by (Answer.refused r) e t q = rw (refused r) (ReadRight.unread s r is e)
+      by (Answer.accepted m n) e true short = rw (short, refused NoRoom) (ReadRight.no-room s m n is e (ltb-true (length lent) 10 short))
+      by (Answer.accepted m n) e false room =
+          rw (room, read-count s bytes are m n e)
+          (ReadRight.told s m n _ is e (ltb-false (length lent) 10 room) (tells s bytes are m n e (drop 10 lent)) (behind (m .instruction) (placesOf 8 (n - 8) (m .body)) (drop 10 lent)))
+
+  read : ReadRight side bytes lent (answered (readCode (sideReading side bytes) (length lent))) (fieldsLeft (sideReading side bytes) lent)
+  read = by (sides side)
+    where
+      by : Sides side → ReadRight side bytes lent (answered (readCode (sideReading side bytes) (length lent))) (fieldsLeft (sideReading side bytes) lent)
+      by (Sides.one e) = rw (side-read side Client bytes (is-client e)) (by-side Client (is-client e))
+      by (Sides.two o e) = rw (side-read side Server bytes (is-server e)) (by-side Server (is-server e))
+      by (Sides.neither o p none) = rw (side-nobody side bytes o p, refused ValueNotAllowed) (ReadRight.nobody none)
+
+option-there : (bytes lent : List ℕ) (o : OptionPlace) → OptionRight bytes lent (optionIn bytes o) (answered (optionCode o (length lent))) (optionLeft o lent)
+option-there bytes lent place.Missing = rw (counted 0 (omega arith)) OptionRight.missing
+option-there bytes lent (place.At id v) = by (ltb (length lent) 3) refl
+  where
+    by : (t : Bool) → ltb (length lent) 3 ≡ t → OptionRight bytes lent (some (record { id = id; value = partOf bytes v })) (answered (if t (refusalCode NoRoom) 1)) (if t lent (id ∷ v .start ∷ v .len ∷ drop 3 lent))
+    by true short = rw (refused NoRoom) (OptionRight.no-room _ (ltb-true (length lent) 3 short))
+    by false room = rw (counted 1 (omega arith)) (OptionRight.told _ _ (ltb-false (length lent) 3 room) refl refl)
+
+option : (bytes : List ℕ) (start length′ k : ℕ) (lent : List ℕ) → OptionCalled bytes start length′ k lent (optionIn bytes (optionAt k start (slice bytes start length′)))
+option bytes start length′ k lent = option-there bytes lent (optionAt k start (slice bytes start length′))
+
+options : (side : ℕ) (bytes f : List ℕ) → IsBytes bytes → 10 ≤ length f
+    → (s : Side) (i n : ℕ) (ps : List Pair) → SideOf side s → reading s bytes ≡ Answer.accepted (message i (Body.options ps)) n
+    → (fieldsLeft (sideReading side bytes) f at COUNT ≡ length ps)
+    × ((k : ℕ) (lent : List ℕ)
+    → OptionCalled bytes (fieldsLeft (sideReading side bytes) f at START-1) (fieldsLeft (sideReading side bytes) f at LENGTH-1) k lent (getElem? ps k))
+options side bytes f are room s i n ps is e =
+    rw (side-read side s bytes is, e, le-ltb (length f) 10 room)
+    (refl, λ k lent. subst (OptionCalled bytes 8 (n - 8) k lent) (option-exact s bytes are i n ps e k) (option bytes 8 (n - 8) k lent))
+
+judged : (x : Fit) (ok : Bool) (n room : ℕ) → answered (writtenCode (judgedAs x ok n room)) ≡ writtenAs (judgedAs x ok n room)
+judged fit.Unknown ok n room = refused UnknownInstruction
+judged fit.Other ok n room = refused ValueNotAllowed
+judged fit.Same false n room = refused ValueNotAllowed
+judged fit.Same true n room = by (ltb 10240 n) refl (ltb room (8 + n))
+  where
+    by : (t : Bool) → ltb 10240 n ≡ t → (u : Bool) → answered (writtenCode (if t (wrote.Refused NoEncoding) (if u (wrote.Refused NoRoom) (wrote.Bytes (8 + n)))))
+        ≡ writtenAs (if t (wrote.Refused NoEncoding) (if u (wrote.Refused NoRoom) (wrote.Bytes (8 + n))))
+    by true e u = refused NoEncoding
+    by false e true = refused NoRoom
+    by false e false = let short = ltb-false 10240 n e in counted (8 + n) (omega (arith, short))
+
+pub write : (instruction : ℕ) (shape : Shape) (ok : Bool) (n room : ℕ) → answered (writtenCode (judgement instruction shape ok n room)) ≡ writtenAs (judgement instruction shape ok n room)
+unfolding judgement
+write instruction shape ok n room = judged (fitOf (findOf instruction) shape) ok n room
+
+lists-refused : (instruction n room : ℕ) → ListsRefused instruction (answered (writtenCode (judgement instruction Options false n room)))
+unfolding judgement
+lists-refused instruction n room = by (findOf instruction) refl
+  where
+    by : (x : Found) → findOf instruction ≡ x → ListsRefused instruction (answered (writtenCode (judgedAs (fitOf x Options) false n room)))
+    by Unknown e = rw (refused UnknownInstruction) (ListsRefused.unknown (lacking instruction e))
+    by (Known sender own) e = shaped (sameShape own Options)
+      where
+        shaped : (t : Bool) → ListsRefused instruction (answered (writtenCode (judgedAs (if t fit.Same fit.Other) false n room)))
+        shaped true = rw (refused ValueNotAllowed) (ListsRefused.value (instruction, sender, own) (listed-find instruction sender own e) refl)
+        shaped false = rw (refused ValueNotAllowed) (ListsRefused.value (instruction, sender, own) (listed-find instruction sender own e) refl)
+
+pub sedna-calls : SednaCalls
+sedna-calls = record {
+  read = read;
+  option = option;
+  options = options;
+  write = write;
+  lists = λ instruction ids lengths values n room e. rw e (lists-refused instruction n room);
+}

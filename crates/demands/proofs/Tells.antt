@@ -1,0 +1,110 @@
+-- Answers turned back, and that the ten numbers of a message that was read mean it.
+use mathlib.Core.List.{List, [], _∷_, _++_}
+use mathlib.Core.Option.{some}
+use mathlib.Core.Path.{_≡_, refl, ap, subst}
+use Prim.Native.Nat.{ℕ, suc, _+_, _-_, _≤_, _<_}
+use native.Mathlib.Omega.{arith}
+use lib.ListN.{length, take, drop, getElem?}
+use borrow.Author.Tests.{lt-ltb, le-ltb}
+use Rattle.wire.specs.Bytes.{IsBytes}
+use Rattle.wire.specs.declared.Refusal.{Refusal}
+use Rattle.wire.specs.Refusals.{numberOf, refusalCode}
+use Rattle.sedna.specs.declared.Side.{Side}
+use Rattle.sedna.specs.Message.{Url, Pair, Body, Message, message}
+use Rattle.sedna_read.specs.declared.OptionPlace.{OptionPlace}
+use Rattle.sedna_read.specs.declared.OptionPlace.the-variants as option
+use Rattle.sedna_read.specs.declared.Places.{Places}
+use Rattle.sedna_read.specs.declared.Places.the-variants as places
+use Rattle.sedna_read.specs.declared.UrlPlace.the-variants as url
+use Rattle.sedna_read.specs.Meaning.{bodyIn, optionIn}
+use Rattle.sedna_read.specs.Places.{placesOf, optionAt}
+use Rattle.sedna_read.specs.Reading.{Answer, reading}
+use Rattle.sedna_c.specs.Codes.{fieldsOf, optionLeft}
+use Rattle.sedna_exact.proofs.Branches.{apart}
+use Rattle.sedna_exact.proofs.Exact.{exact}
+use Rattle.sedna_exact.proofs.Meaning.{meaning-located}
+use Rattle.sedna_exact.proofs.Options.{option-exact}
+use Rattle.sedna_exact.proofs.Written.{encode-length}
+use Rattle.demands.specs.Answered.{Answered, REFUSED, answered}
+use Rattle.demands.specs.Header.{_at_, INSTRUCTION, upTo, pairTold, Row, Tells}
+
+pub counted : (n : ℕ) → n < 9223372036854775808 → answered n ≡ Answered.count n
+counted n h = rw (lt-ltb n REFUSED h)
+
+pub refused : (r : Refusal) → answered (refusalCode r) ≡ Answered.refusal (numberOf r)
+refused r =
+    let less : (refusalCode r - REFUSED) ≡ numberOf r = omega arith in
+    rw (le-ltb (refusalCode r) REFUSED (omega arith), less)
+
+-- a message that was read has at most 10,248 bytes
+pub read-short : (side : Side) (s : List ℕ) → IsBytes s → (m : Message) (n : ℕ) → reading side s ≡ Answer.accepted m n → n ≤ 10248
+read-short side s h m n e =
+    let there = exact side s h m n .0 e in
+    let short = there .0 .short in
+    let count = there .1 .count in
+    omega (arith, short, count, encode-length m)
+
+pub read-count : (side : Side) (s : List ℕ) → IsBytes s → (m : Message) (n : ℕ) → reading side s ≡ Answer.accepted m n → answered n ≡ Answered.count n
+read-count side s h m n e = let short = read-short side s h m n e in counted n (omega (arith, short))
+
+-- the option that three numbers mean
+option-told : (s : List ℕ) (o : OptionPlace) (p : Pair) → optionIn s o ≡ some p → pairTold s (optionLeft o (0 ∷ 0 ∷ 0 ∷ [])) ≡ p
+option-told s option.Missing p e = apart (cc)
+option-told s (option.At id v) p e = cc
+
+-- all of them
+options-told : (s : List ℕ) (ps : List Pair) (f : ℕ → OptionPlace) → ((k : ℕ) → optionIn s (f k) ≡ getElem? ps k)
+    → upTo (length ps) (λ k. pairTold s (optionLeft (f k) (0 ∷ 0 ∷ 0 ∷ []))) ≡ ps
+options-told s [] f h = refl
+options-told s (p ∷ ps) f h = λ i. option-told s (f 0) p (h 0) i ∷ options-told s ps (λ k. f (suc k)) (λ k. h (suc k)) i
+
+module _ (side : Side) (s : List ℕ) (h : IsBytes s) (i n : ℕ) where
+  -- a body's numbers, where the message with it was read
+  abbrev Numbers : Body → List ℕ → List ℕ
+  Numbers b rest = fieldsOf i (placesOf 8 (n - 8) b) ++ rest
+
+  body-there : (b : Body) → reading side s ≡ Answer.accepted (message i b) n → bodyIn s (placesOf 8 (n - 8) b) ≡ b
+  body-there b e = ap bodyOf (rw e at (meaning-located side s h))
+    where
+      bodyOf : Answer → Body
+      bodyOf (Answer.refused r) = Body.empty
+      bodyOf (Answer.accepted m k) = m .body
+
+  row : (b : Body) (rest : List ℕ) → reading side s ≡ Answer.accepted (message i b) n → Row s (Numbers b rest) b
+  row Body.empty rest e = Row.empty refl (refl, (refl, (refl, (refl, (refl, (refl, (refl, (refl, tt))))))))
+  row (Body.session major minor user database) rest e = subst (Row s (Numbers (Body.session major minor user database) rest)) (body-there _ e) (Row.session refl (refl, (refl, tt)))
+  row (Body.text t) rest e = subst (Row s (Numbers (Body.text t) rest)) (body-there _ e) (Row.text refl (refl, (refl, (refl, (refl, (refl, (refl, tt)))))))
+  row (Body.statement format t) rest e = subst (Row s (Numbers (Body.statement format t) rest)) (body-there _ e) (Row.statement refl (refl, (refl, (refl, (refl, (refl, tt))))))
+  row (Body.coded code t) rest e = subst (Row s (Numbers (Body.coded code t) rest)) (body-there _ e) (Row.coded refl (refl, (refl, (refl, (refl, (refl, tt))))))
+  row (Body.options ps) rest e =
+      subst (Row s (Numbers (Body.options ps) rest)) (ap Body.options (options-told s ps (λ k. optionAt k 8 (take (n - 8) (drop 8 s))) (option-exact side s h i n ps e)))
+      (Row.options refl (refl, (refl, (refl, (refl, (refl, tt))))))
+  row (Body.item class kind Url.absent part) rest e =
+      subst (Row s (Numbers (Body.item class kind Url.absent part) rest)) (body-there _ e) (Row.item refl (refl, (refl, (refl, (refl, tt)))))
+  row (Body.item class kind (Url.present url) part) rest e =
+      subst (Row s (Numbers (Body.item class kind (Url.present url) part) rest)) (body-there _ e) (Row.item-url refl (refl, tt) refl)
+
+front : (i : ℕ) (p : Places) (rest : List ℕ) → (fieldsOf i p ++ rest) at INSTRUCTION ≡ i
+front i places.Empty rest = refl
+front i (places.Session major minor user database) rest = refl
+front i (places.Text t) rest = refl
+front i (places.Statement format t) rest = refl
+front i (places.Coded code t) rest = refl
+front i (places.Options pairs count) rest = refl
+front i (places.Item class kind url.Absent part) rest = refl
+front i (places.Item class kind (url.At u) part) rest = refl
+
+pub tells : (side : Side) (s : List ℕ) → IsBytes s → (m : Message) (n : ℕ) → reading side s ≡ Answer.accepted m n
+    → (rest : List ℕ) → Tells s (fieldsOf (m .instruction) (placesOf 8 (n - 8) (m .body)) ++ rest) m
+tells side s h m n e rest = record { instruction = front (m .instruction) (placesOf 8 (n - 8) (m .body)) rest; body = row side s h (m .instruction) n (m .body) rest e }
+
+-- and numbers behind the ten are behind them
+pub behind : (i : ℕ) (p : Places) (rest : List ℕ) → drop 10 (fieldsOf i p ++ rest) ≡ rest
+behind i places.Empty rest = refl
+behind i (places.Session major minor user database) rest = refl
+behind i (places.Text t) rest = refl
+behind i (places.Statement format t) rest = refl
+behind i (places.Coded code t) rest = refl
+behind i (places.Options pairs count) rest = refl
+behind i (places.Item class kind url.Absent part) rest = refl
+behind i (places.Item class kind (url.At u) part) rest = refl

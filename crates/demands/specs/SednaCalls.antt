@@ -1,0 +1,86 @@
+-- What `kdr_read`, `kdr_option` and the calls that write a message answer and leave, turned back into what it means by the header's names. The right sides of
+-- their contracts stand behind `answered`, and where memory is left; those of the session's calls are in Exports.antt.
+use mathlib.Core.Bool.{Bool, false}
+use mathlib.Core.List.{List}
+use mathlib.Core.Option.{Option, none, some}
+use mathlib.Core.Path.{_≡_}
+use Prim.Native.Nat.{ℕ, _≤_, _<_}
+use lib.ListN.{length, drop, getElem?}
+use Rattle.wire.specs.Bytes.{IsBytes}
+use Rattle.wire.specs.declared.Refusal.{Refusal}
+use Rattle.wire.specs.Refusals.{numberOf}
+use Rattle.sedna.specs.declared.Entry.{Entry}
+use Rattle.sedna.specs.declared.Shape.{Shape}
+use Rattle.sedna.specs.declared.Shape.the-variants.{Options}
+use Rattle.sedna.specs.declared.Side.{Side}
+use Rattle.sedna.specs.Message.{Pair, Body, Message, message}
+use Rattle.sedna.specs.Table.{InTable}
+use Rattle.sedna_read.specs.Meaning.{optionIn}
+use Rattle.sedna_read.specs.Places.{optionAt}
+use Rattle.sedna_read.specs.Reading.{Answer, reading}
+use Rattle.sedna_write.specs.declared.Written.{Written}
+use Rattle.sedna_write.specs.declared.Written.the-variants as wrote
+use Rattle.sedna_write.specs.Pairs.{given}
+use Rattle.sedna_write.specs.Writing.{judgement}
+use Rattle.sedna_c.specs.Codes.{writtenCode, sideReading, readCode, fieldsLeft, optionCode, optionLeft}
+use Rattle.demands.specs.Answered.{Answered, answered}
+use Rattle.demands.specs.Header.{_at_, slice, SideOf, START-1, LENGTH-1, COUNT, FIELDS, OPTION-FIELDS, pairTold, Tells}
+
+-- a call of `kdr_read` with lent numbers came out right: what it answers, and what the numbers are then
+pub data ReadRight (side : ℕ) (bytes lent : List ℕ) : Answered → List ℕ → Type 0 where
+  -- "8 for a side that is none"
+  nobody : ((s : Side) → ¬ SideOf side s) → ReadRight side bytes lent (Answered.refusal 8) lent
+  -- "then 1 to 8 in document 01's order"
+  unread : (s : Side) (r : Refusal) → SideOf side s → reading s bytes ≡ Answer.refused r → ReadRight side bytes lent (Answered.refusal (numberOf r)) lent
+  -- "last 10 where fewer than ten numbers are lent"
+  no-room : (s : Side) (m : Message) (n : ℕ) → SideOf side s → reading s bytes ≡ Answer.accepted m n → length lent < FIELDS
+      → ReadRight side bytes lent (Answered.refusal 10) lent
+  -- the bytes of the message; the ten numbers mean it, and those behind them stay
+  told : (s : Side) (m : Message) (n : ℕ) (f : List ℕ) → SideOf side s → reading s bytes ≡ Answer.accepted m n → FIELDS ≤ length lent
+      → Tells bytes f m → drop FIELDS f ≡ drop FIELDS lent → ReadRight side bytes lent (Answered.count n) f
+
+-- a call of `kdr_option` came out right, where there is that option or none
+pub data OptionRight (bytes lent : List ℕ) : Option Pair → Answered → List ℕ → Type 0 where
+  -- "it is 0 where there is no such option"
+  missing : OptionRight bytes lent none (Answered.count 0) lent
+  -- "10 where there is one and fewer than three numbers are lent"
+  no-room : (p : Pair) → length lent < OPTION-FIELDS → OptionRight bytes lent (some p) (Answered.refusal 10) lent
+  -- "The answer is 1, and `fields` gets three numbers"
+  told : (p : Pair) (f : List ℕ) → OPTION-FIELDS ≤ length lent → pairTold bytes f ≡ p → drop OPTION-FIELDS f ≡ drop OPTION-FIELDS lent
+      → OptionRight bytes lent (some p) (Answered.count 1) f
+
+-- that of option k of those that stand at a start, by its contract
+abbrev pub OptionCalled : List ℕ → ℕ → ℕ → ℕ → List ℕ → Option Pair → Type 0
+OptionCalled bytes start length′ k lent o =
+    OptionRight bytes lent o (answered (optionCode (optionAt k start (slice bytes start length′)) (length lent)))
+    (optionLeft (optionAt k start (slice bytes start length′)) lent)
+
+-- what writing answers, as counts and refusals
+abbrev pub writtenAs : Written → Answered
+writtenAs (wrote.Bytes n) = Answered.count n
+writtenAs (wrote.Refused r) = Answered.refusal (numberOf r)
+
+-- "Lists that do not belong together … are a value that is not allowed: 8"; an instruction that the table lacks goes ahead
+pub data ListsRefused (instruction : ℕ) : Answered → Type 0 where
+  unknown : ((e : Entry) → InTable e → ¬ (e .0 ≡ instruction)) → ListsRefused instruction (Answered.refusal 2)
+  value : (e : Entry) → InTable e → e .0 ≡ instruction → ListsRefused instruction (Answered.refusal 8)
+
+pub record SednaCalls : Type 0 where
+  -- `kdr_read`, for any side's number, bytes and lent numbers
+  pub read : (side : ℕ) (bytes lent : List ℕ) → IsBytes bytes
+      → ReadRight side bytes lent (answered (readCode (sideReading side bytes) (length lent))) (fieldsLeft (sideReading side bytes) lent)
+  -- `kdr_option`, for any arguments: it hands out the option that stands there
+  pub option : (bytes : List ℕ) (start length′ k : ℕ) (lent : List ℕ)
+      → OptionCalled bytes start length′ k lent (optionIn bytes (optionAt k start (slice bytes start length′)))
+  -- of a SetOptions with ps that `kdr_read` told: COUNT is how many there are, and by its START_1 and LENGTH_1 `kdr_option` hands out the k-th of ps
+  pub options : (side : ℕ) (bytes f : List ℕ) → IsBytes bytes → FIELDS ≤ length f
+      → (s : Side) (i n : ℕ) (ps : List Pair) → SideOf side s → reading s bytes ≡ Answer.accepted (message i (Body.options ps)) n
+      → (fieldsLeft (sideReading side bytes) f at COUNT ≡ length ps)
+      × ((k : ℕ) (lent : List ℕ)
+      → OptionCalled bytes (fieldsLeft (sideReading side bytes) f at START-1) (fieldsLeft (sideReading side bytes) f at LENGTH-1) k lent (getElem? ps k))
+  -- each call that writes a message: `written` is such a judgement, and `Demand2.sedna.writing-exact`, `Demand1.sedna.writing-refused` say which
+  pub write : (instruction : ℕ) (shape : Shape) (ok : Bool) (n room : ℕ)
+      → answered (writtenCode (judgement instruction shape ok n room)) ≡ writtenAs (judgement instruction shape ok n room)
+  -- `kdr_write_options`, where the three lists do not belong together
+  pub lists : (instruction : ℕ) (ids lengths values : List ℕ) (n room : ℕ) → given ids lengths values ≡ false
+      → ListsRefused instruction (answered (writtenCode (judgement instruction Options (given ids lengths values) n room)))
