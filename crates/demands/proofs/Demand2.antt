@@ -14,7 +14,7 @@ use Rattle.sedna_exact.proofs.Table.{once}
 use Rattle.sedna_exact.proofs.Written.{written-exact, read-written, write-read}
 use Rattle.fragments.proofs.Counts.{statement-counted, statements-counted, item-counted, typed-item-counted}
 use Rattle.assembly.proofs.Cuttings.{joins}
-use Rattle.assembly_handing.proofs.Inside.{handed-all}
+use Rattle.assembly_handing.proofs.Handed.{hands-over}
 use Rattle.fragments_exact.proofs.Cuts.{statement-cut-published, statement-cut-request, item-cut-published, item-cut-item, typed-item-cut-published, typed-item-cut-item}
 use Rattle.fragments_exact.proofs.Filled.{statement-filled, item-filled, typed-filled, url-fits, url-counted}
 use Rattle.fragments_exact.proofs.Joins.{statement-rejoined, item-rejoined, typed-item-rejoined}
@@ -52,7 +52,7 @@ sedna =
 parts : Parts
 parts = record {
   joins = joins;
-  handed-all = handed-all;
+  hands-over = hands-over;
   statement-published = statement-cut-published;
   statement-laid-out = statement-cut-request;
   statement-counted = statement-counted;

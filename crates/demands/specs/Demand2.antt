@@ -38,12 +38,9 @@ use Rattle.grammar.specs.Sent.{Version, from, upTo}
 use Rattle.fragments.specs.Cut.{startRoom, cutStatement, cutItem, cutTypedItem}
 use Rattle.fragments.specs.declared.Parts.the-variants as counted
 use Rattle.fragments.specs.Part.{statementParts, itemPartsFrom, urlParts, partWritten, partLeft}
-use Rattle.assembly.specs.declared.Assembly.{Assembly}
 use Rattle.assembly.specs.declared.Open.the-variants as gathering
-use Rattle.assembly.specs.Answers.{reply, bytesHanded}
 use Rattle.assembly.specs.Cuttings.{Cutting, Ending, ending, messages, AllAllowed, Joins}
-use Rattle.assembly.specs.Joining.{joined}
-use Rattle.assembly_handing.specs.Handing.{handedOver}
+use Rattle.assembly_handing.specs.Handing.{HandsOver}
 use Rattle.fragments_exact.specs.Filled.{Filled}
 use Rattle.fragments_exact.specs.Rejoined.{UrlFits, Rejoined}
 use Rattle.fragments_exact.specs.ThroughBytes.{Uncut, Sendable, Roomy, Returned}
@@ -112,9 +109,8 @@ pub record Sedna : Type 0 where
 pub record Parts : Type 0 where
   -- "Joining accepts every cutting, empty parts included", whoever made it
   pub joins : (c : Cutting) → AllAllowed (messages c) → (d : List ℕ) → Joins c d
-  -- "handed over as the front part of the gathering buffer": whatever the record, the part has all the bytes that the answer tells, and none where nothing
-  -- is finished
-  pub handed-all : (a : Assembly) (d : List ℕ) (m : Message) → length (handedOver a d m) ≡ bytesHanded (reply (joined a (length d) m .answer))
+  -- "handed over as the front part of the gathering buffer": the part has all the bytes that the answer tells, and of a cutting it is the text
+  pub hands-over : HandsOver
   -- a statement: every message of its cut is one that the codec reads; in their order they are a statement's text of the grammar; there are as many as
   -- 01 says; and joined again they are the statement
   pub statement-published : (format : ℕ) → formatAllowed format ≡ true → (text : List ℕ) → IsBytes text → Every (Published Client) (cutStatement format text)
