@@ -48,7 +48,7 @@ pub record Stored : Type 0 where
 abbrev pub onward : List ℕ → ℕ → Taken → (List ℕ → ℕ → List ℕ → Stored) → Stored
 onward out to t next = next (over out to (t .text)) (to + length (t .text)) (t .rest)
 
--- the texts of n strings, one behind the other from `to` on, as far as there is room
+-- the texts of n strings that were judged, one behind the other from `to` on, as far as there is room: nothing is refused
 unfoldable pub stored : ℕ → List ℕ → ℕ → List ℕ → Stored
 stored zero out to s = record { out = out; to = to; rest = s }
 stored (suc n) out to s = onward out to (taken (length out - to) s) (stored n)

@@ -224,16 +224,17 @@ pub fn two_at(bytes: &[u8], at: usize, n: usize) -> TwoAt
     }
 }
 
-// The texts of n strings from `at` on, one behind the other from `to` on, as far as there is room.
-// Nothing is judged: whoever wants all or nothing judges first.
-pub fn put_texts(bytes: &[u8], at: usize, n: usize, out: &mut [u8], to: usize) -> Ends
+// An inner tool of the readers: the texts of n judged strings from `at` on, one behind the other from
+// `to` on. Nothing is judged or refused here: the caller has judged the strings, and seen that all of
+// their texts fit.
+pub fn store_judged_texts(bytes: &[u8], at: usize, n: usize, out: &mut [u8], to: usize) -> Ends
     ensures { λ r. ⌜ (r ≡ ends at (length (now (bytes .entry)) - at) (stored n (now (out .entry)) to (drop at (now (bytes .entry))))) × (now (out .exit) ≡ stored n (now (out .entry)) to (drop at (now (bytes .entry))) .out) ⌝ }
 {
     let mut from = at;
     let mut end = to;
     let mut i: usize = 0;
     while i < n {
-        let put = basex_string::put_text(bytes, from, out, end);
+        let put = basex_string::store_judged_text(bytes, from, out, end);
         from = put.next;
         end = put.to;
         i += 1;

@@ -124,7 +124,7 @@ pub fn read_request(bytes: &[u8], out: &mut [u8]) -> Requested
             if out.len() < first + second + third + fourth {
                 return Requested::Refused(Refusal::NoRoom);
             }
-            basex::put_texts(bytes, from, n, out, 0);
+            basex::store_judged_texts(bytes, from, n, out, 0);
             Requested::Read {
                 kind,
                 first,

@@ -110,7 +110,7 @@ fn put_items(full: bool, bytes: &[u8], at: usize, count: usize, out: &mut [u8], 
     let mut i: usize = 0;
     while i < count {
         let n = basex::item_strings(full, bytes[from]);
-        let put = basex::put_texts(bytes, from + 1, n, out, end);
+        let put = basex::store_judged_texts(bytes, from + 1, n, out, end);
         from = put.next;
         end = put.to;
         i += 1;
@@ -139,10 +139,10 @@ fn store(reply: Reply, bytes: &[u8], items: usize, status: u8, out: &mut [u8])
     ensures { λ _. ⌜ now (out .exit) ≡ left (now (out .entry)) (fieldsOf reply (now (bytes .entry))) ⌝ }
 {
     let n = basex::strings_ahead(reply);
-    let ahead = basex::put_texts(bytes, 0, n, out, 0);
+    let ahead = basex::store_judged_texts(bytes, 0, n, out, 0);
     let list = put_list(reply, bytes, ahead.next, items, out, ahead.to);
     let m = basex::strings_behind(reply, status);
-    let _ = basex::put_texts(bytes, list.next + 1, m, out, list.to);
+    let _ = basex::store_judged_texts(bytes, list.next + 1, m, out, list.to);
 }
 
 // "with 10 last": the room is compared with all texts together, and nothing is stored before. No

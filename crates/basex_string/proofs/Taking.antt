@@ -100,7 +100,7 @@ module _ (room : ℕ) (s : List ℕ) (i : ℕ) (h : i < length s) where
 taken-plains : (room : ℕ) (s : List ℕ) (i k : ℕ) → k ≤ run (drop i s) → k ≤ room → taken room (drop i s) ≡ keeps (take k (drop i s)) (taken (room - k) (drop (i + k) s))
 taken-plains room s i k h f = taken-run k room (drop i s) h f ∙ ap (λ (l : List ℕ). keeps (take k (drop i s)) (taken (room - k) l)) (drop-drop k i s)
 
--- the loop of `put_text`: what is taken from i on, put from n on, makes t of the output, which is free from `last` on then, and leaves `rest`
+-- the loop of `store_judged_text`: what is taken from i on, put from n on, makes t of the output, which is free from `last` on then, and leaves `rest`
 pub record Going (s t rest : List ℕ) (last : ℕ) (d : List ℕ) (i n : ℕ) : Type 0 where
   pub makes : over d n (taken (length d - n) (drop i s) .text) ≡ t
   pub free : n + length (taken (length d - n) (drop i s) .text) ≡ last
@@ -145,7 +145,7 @@ module _ {s t rest : List ℕ} {last : ℕ} {d : List ℕ} {i n : ℕ} (g : Goin
       let l : length x ≡ k = length-take-le k (drop i s) (let w = run-within (drop i s) in omega arith) in
       going-on x (i + k) (taken-plains (length d - n) s i k h (omega arith) ∙ ap (λ (o : ℕ). keeps x (taken (length d - n - o) (drop (i + k) s))) (sym l)) (omega arith) p (omega arith)
 
--- at the start, and at the end: what `put_text` answers
+-- at the start, and at the end: what `store_judged_text` answers
 module _ (s d : List ℕ) (at to : ℕ) where
   abbrev pub Taking : List ℕ → ℕ → ℕ → Type 0
   Taking = Going s (over d to (taken (length d - to) (drop at s) .text)) (taken (length d - to) (drop at s) .rest) (to + length (taken (length d - to) (drop at s) .text))

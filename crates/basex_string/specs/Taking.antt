@@ -1,4 +1,4 @@
--- Taking the text of a string off the front without judging it: nothing is refused.
+-- Taking the text of a string that was judged off the front: nothing is judged again, and nothing is refused.
 use mathlib.Core.Bool.{Bool, true, false}
 use mathlib.Core.List.{List, [], _∷_}
 use Prim.Native.Nat.{ℕ, _+_, _-_}

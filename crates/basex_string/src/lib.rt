@@ -1,5 +1,6 @@
 // BaseX strings: written into lent output, judged where they stand, and decoded into lent output.
-// All of a string or nothing: on a refusal the output stays as it was.
+// Writing and decoding put all of a string or nothing: on a refusal the output stays as it was.
+// `store_judged_text` alone refuses nothing: it is an inner tool for readers that judged first.
 ghost use mathlib.Core.Bool.{not, false};
 ghost use mathlib.Core.Path.{_≡_};
 ghost use mathlib.Core.List.{[], _∷_, _++_};
@@ -10,7 +11,7 @@ ghost use Rattle.wire.specs.Bytes.{if, over, placed};
 ghost use Rattle.basex_string.specs.Strings.{special, string};
 ghost use Rattle.basex_string.specs.Scan.{reading};
 ghost use Rattle.basex_string.specs.Answers.{run, pairs, spelling, located, decoded, left, textOf};
-pub use put::put_text;
+pub use put::store_judged_text;
 use wire::Refusal;
 
 mod count;

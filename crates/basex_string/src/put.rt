@@ -1,5 +1,6 @@
-// The text of a string, stored as it is met, in one pass. Nothing is judged here: whoever wants all or
-// nothing judges first, and what was judged is not judged again.
+// An inner tool of the readers: the text of a string that was judged, stored as it is met, in one pass.
+// Nothing is judged or refused here. Whoever wants all or nothing judges the string and the room first
+// (`string_at`), or calls `decode`; what was judged is not judged again.
 ghost use mathlib.Core.Path.{_≡_};
 ghost use Prim.Native.Nat.{_+_, _-_, _≤_, min};
 ghost use lib.ListN.{length, take, drop};
@@ -57,8 +58,9 @@ fn put_run(bytes: &[u8], from: usize, out: &mut [u8], to: usize) -> usize
     blocks + put_singles(bytes, from + blocks, out, to + blocks, most - blocks)
 }
 
-// What stands at `at` up to its 00, decoded into the output from `to` on, as far as there is room.
-pub fn put_text(bytes: &[u8], at: usize, out: &mut [u8], to: usize) -> Ends
+// The text of the judged string at `at`, decoded into the output from `to` on. The caller has seen that
+// it fits; of bytes that no one judged, what stands there up to a 00 is stored as far as there is room.
+pub fn store_judged_text(bytes: &[u8], at: usize, out: &mut [u8], to: usize) -> Ends
     ensures { λ r. ⌜ (r ≡ ended at (length (now (bytes .entry)) - at) to (taken (length (now (out .entry)) - to) (drop at (now (bytes .entry))))) × (now (out .exit) ≡ over (now (out .entry)) to (taken (length (now (out .entry)) - to) (drop at (now (bytes .entry))) .text)) ⌝ }
 {
     let mut i = at;

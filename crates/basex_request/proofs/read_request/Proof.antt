@@ -35,8 +35,8 @@ returns c =
     let w = whole (a .bytes .now) _ _ _ _ _ _ _ _ (sym (c .before .before .kind .given .1) ∙ c .before .before .before .before .judge .ensures) in
     whole-not (a .bytes .now) (a .out .now) _ _ _ _ _ _ _ _ w (c .if1 .taken)
 
-put-texts-requires : tie.Need-put-texts-requires
-put-texts-requires c κs = search needs
+store-judged-texts-requires : tie.Need-store-judged-texts-requires
+store-judged-texts-requires c κs = search needs
 
 returns-2 : tie.Need-returns-2
 returns-2 c =
@@ -52,7 +52,7 @@ returns-3 c =
     let a = c .before .before .before .before .before .before .before .before .before .before .before .args in
     let w = whole (a .bytes .now) _ _ _ _ _ _ _ _ (sym (c .before .before .before .before .before .before .kind .given .1) ∙ c .before .before .before .before .before .before .before .before .judge .ensures) in
     let r = whole-read (a .bytes .now) (a .out .now) _ _ _ _ _ _ _ _ w (c .before .before .before .before .if1 .left) in
-    (r .0, c .before .before .put-texts .ensures .1 ∙ r .1)
+    (r .0, c .before .before .store-judged-texts .ensures .1 ∙ r .1)
 
 pub read-request-spec : {M : Type 1} → statement M
 read-request-spec =
@@ -65,7 +65,7 @@ read-request-spec =
     add-if1-2
     add-if1-3
     returns
-    put-texts-requires
+    store-judged-texts-requires
     returns-2
     same-length
     returns-3)

@@ -26,11 +26,11 @@ shared-slice-read-item-strings c = going-inside _ _ _ _ _ _ _ (c .before .before
 item-strings-requires : tie.Need-item-strings-requires Inv-loop μ-loop
 item-strings-requires c κs = search needs
 
-add-put-texts : tie.Need-add-put-texts Inv-loop μ-loop
-add-put-texts c = let h = going-inside _ _ _ _ _ _ _ (c .before .before .before .loop .inv .3) in omega arith
+add-store-judged-texts : tie.Need-add-store-judged-texts Inv-loop μ-loop
+add-store-judged-texts c = let h = going-inside _ _ _ _ _ _ _ (c .before .before .before .loop .inv .3) in omega arith
 
-put-texts-requires : tie.Need-put-texts-requires Inv-loop μ-loop
-put-texts-requires c κs = search needs
+store-judged-texts-requires : tie.Need-store-judged-texts-requires Inv-loop μ-loop
+store-judged-texts-requires c κs = search needs
 
 add-i : tie.Need-add-i Inv-loop μ-loop
 add-i c = omega arith
@@ -43,7 +43,7 @@ loop-again c =
     let a = c .before .before .before .before .before .before .before .before .before .before .args in
     let l = c .before .before .before .before .before .before .before .loop in
     let h = c .before .before .before .before .before .before .loop-test .taken in
-    let g = going-on _ _ _ _ _ _ _ (l .inv .3) _ (c .before .before .before .before .item-strings .ensures) _ _ (c .before .before .put-texts .ensures .0) (c .before .before .put-texts .ensures .1) (a .count - (l .i + 1)) (omega arith) in
+    let g = going-on _ _ _ _ _ _ _ (l .inv .3) _ (c .before .before .before .before .item-strings .ensures) _ _ (c .before .before .store-judged-texts .ensures .0) (c .before .before .store-judged-texts .ensures .1) (a .count - (l .i + 1)) (omega arith) in
     (omega arith, search needs, (let w = g .1 in omega arith), g .0)
 
 add-t18 : tie.Need-add-t18 Inv-loop μ-loop
@@ -67,8 +67,8 @@ put-items-spec =
     loop-holds
     shared-slice-read-item-strings
     item-strings-requires
-    add-put-texts
-    put-texts-requires
+    add-store-judged-texts
+    store-judged-texts-requires
     add-i
     loop-less
     loop-again

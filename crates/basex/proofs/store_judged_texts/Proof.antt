@@ -6,8 +6,8 @@ use lib.ListN.{length, drop, length-drop}
 use borrow.Author.Needs.{needs}
 use Rattle.basex.specs.Texts.{Stored, stored}
 use Rattle.basex.proofs.Places.{one-more}
-use Rattle.basex.proofs.put_texts.Statement.{statement}
-use Rattle.basex.proofs.put_texts.Tie as tie
+use Rattle.basex.proofs.store_judged_texts.Statement.{statement}
+use Rattle.basex.proofs.store_judged_texts.Tie as tie
 
 abbrev Inv-loop : tie.InvT-loop
 Inv-loop bytes at n out₀ to from₀ end₀ i₀ out from end i =
@@ -22,8 +22,8 @@ loop-holds c =
     let z : a .n ≡ a .n - 0 = omega arith in
     (omega arith, refl, (omega arith, omega arith), ap (λ (m : ℕ). stored m (a .out .now) (a .to) (drop (a .at) (a .bytes .now))) z)
 
-put-text-requires : tie.Need-put-text-requires Inv-loop μ-loop
-put-text-requires c κs = search needs
+store-judged-text-requires : tie.Need-store-judged-text-requires Inv-loop μ-loop
+store-judged-text-requires c κs = search needs
 
 add-i : tie.Need-add-i Inv-loop μ-loop
 add-i c = omega arith
@@ -35,7 +35,7 @@ loop-again : tie.Need-loop-again Inv-loop μ-loop
 loop-again c =
     let a = c .before .before .before .before .before .before .before .before .args in
     let l = c .before .before .before .before .before .loop in
-    let p = c .before .before .put-text in
+    let p = c .before .before .store-judged-text in
     let k : ℕ = a .n - (l .i + 1) in
     let s : a .n - l .i ≡ suc k = let t = c .before .before .before .before .loop-test .taken in omega arith in
     let v = l .inv .3 ∙ ap (λ (m : ℕ). stored m (l .out) (l .end) (drop (l .from) (a .bytes .now))) s in
@@ -56,14 +56,14 @@ returns c =
     let e : l .from ≡ a .at + (length (a .bytes .now) - a .at - length (drop (l .from) (a .bytes .now))) = let f = l .inv .2 in omega arith in
     (rw u (ap (λ (m : ℕ). record { next = m; to = l .end }) e), sym (ap (λ (m : Stored). m .out) u))
 
-pub put-texts-spec : {M : Type 1} → statement M
-put-texts-spec =
+pub store-judged-texts-spec : {M : Type 1} → statement M
+store-judged-texts-spec =
     tie.close
     (tie.spec
     Inv-loop
     μ-loop
     loop-holds
-    put-text-requires
+    store-judged-text-requires
     add-i
     loop-less
     loop-again

@@ -4,8 +4,8 @@ use native.Mathlib.Omega.{arith}
 use lib.ListN.{length, drop, length-drop, length-set}
 use Rattle.basex_string.proofs.Runs.{run-goes, run-within}
 use Rattle.basex_string.proofs.Taking.{Taking, taken-end, taken-zero, taken-full, taken-cut, going-start, going-pair, going-run, going-end}
-use Rattle.basex_string.proofs.put.put_text.Statement.{statement}
-use Rattle.basex_string.proofs.put.put_text.Tie as tie
+use Rattle.basex_string.proofs.put.store_judged_text.Statement.{statement}
+use Rattle.basex_string.proofs.put.store_judged_text.Tie as tie
 
 abbrev Inv-loop : tie.InvT-loop
 Inv-loop bytes at out₀ to i₀ n₀ out i n = (length out ≡ length out₀) × ((at ≤ i) × (i ≤ at + (length bytes - at))) × Taking bytes out₀ at to out i n
@@ -126,8 +126,8 @@ returns-4 c =
     let l = c .before .loop in
     going-end (a .bytes .now) (a .out .now) (a .at) (a .to) (l .i) (l .inv .2) (taken-end (length (l .out) - l .n) (a .bytes .now) (l .i) (c .loop-test .left)) (omega arith)
 
-pub put-text-spec : {M : Type 1} → statement M
-put-text-spec =
+pub store-judged-text-spec : {M : Type 1} → statement M
+store-judged-text-spec =
     tie.close
     (tie.spec
     Inv-loop
