@@ -4,6 +4,8 @@ pub mod Demand2
 pub mod Demand3
 pub mod Examples
 pub mod Exports
+pub mod Gatherings
+pub mod PartsCalls
 pub mod Refused
 pub mod SednaCalls
 pub mod Tells

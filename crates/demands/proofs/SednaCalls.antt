@@ -37,7 +37,7 @@ use Rattle.sedna_exact.proofs.Table.{listed-find}
 use Rattle.demands.specs.Answered.{answered}
 use Rattle.demands.specs.Header.{_at_, slice, SideOf, client, server, START-1, LENGTH-1, COUNT}
 use Rattle.demands.specs.SednaCalls.{ReadRight, OptionRight, OptionCalled, writtenAs, ListsRefused, SednaCalls}
-use Rattle.demands.proofs.Tells.{counted, refused, read-count, tells, behind}
+use Rattle.demands.proofs.Tells.{counted, refused, read-count, tells, behind, one-message}
 
 -- a side's number, 1 or 2, or none
 pub data Sides (n : ℕ) : Type 0 where
@@ -72,7 +72,7 @@ unfolding sideReading
 side-read side s bytes client = refl
 side-read side s bytes server = refl
 
-side-nobody : (side : ℕ) (bytes : List ℕ) → eqb side 1 ≡ false → eqb side 2 ≡ false → sideReading side bytes ≡ reads.Refused ValueNotAllowed
+pub side-nobody : (side : ℕ) (bytes : List ℕ) → eqb side 1 ≡ false → eqb side 2 ≡ false → sideReading side bytes ≡ reads.Refused ValueNotAllowed
 unfolding sideReading
 side-nobody side bytes o p = rw (o, p)
 
@@ -145,6 +145,7 @@ lists-refused instruction n room = by (findOf instruction) refl
 
 pub sedna-calls : SednaCalls
 sedna-calls = record {
+  one-message = one-message;
   read = read;
   option = option;
   options = options;

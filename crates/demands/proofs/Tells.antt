@@ -1,12 +1,13 @@
 -- Answers turned back, and that the ten numbers of a message that was read mean it.
 use mathlib.Core.List.{List, [], _∷_, _++_}
 use mathlib.Core.Option.{some}
-use mathlib.Core.Path.{_≡_, refl, ap, subst}
+use mathlib.Core.Path.{_≡_, refl, sym, ap, subst, _∙_}
 use Prim.Native.Nat.{ℕ, suc, _+_, _-_, _≤_, _<_}
 use native.Mathlib.Omega.{arith}
+use lib.Dec.{eqb}
 use lib.ListN.{length, take, drop, getElem?}
 use borrow.Author.Tests.{lt-ltb, le-ltb}
-use Rattle.wire.specs.Bytes.{IsBytes}
+use Rattle.wire.specs.Bytes.{IsBytes, if}
 use Rattle.wire.specs.declared.Refusal.{Refusal}
 use Rattle.wire.specs.Refusals.{numberOf, refusalCode}
 use Rattle.sedna.specs.declared.Side.{Side}
@@ -26,7 +27,7 @@ use Rattle.sedna_exact.proofs.Meaning.{meaning-located}
 use Rattle.sedna_exact.proofs.Options.{option-exact}
 use Rattle.sedna_exact.proofs.Written.{encode-length}
 use Rattle.demands.specs.Answered.{Answered, REFUSED, answered}
-use Rattle.demands.specs.Header.{_at_, INSTRUCTION, upTo, pairTold, Row, Tells}
+use Rattle.demands.specs.Header.{_at_, slice, upTo, INSTRUCTION, SHAPE, START-1, LENGTH-1, START-2, LENGTH-2, COUNT, HAS-URL, MAJOR, MINOR, FORMAT, CODE, CLASS, TYPE, URL-START, URL-LENGTH, pairTold, optionNumbers, Row, Tells}
 
 pub counted : (n : ℕ) → n < 9223372036854775808 → answered n ≡ Answered.count n
 counted n h = rw (lt-ltb n REFUSED h)
@@ -108,3 +109,31 @@ behind i (places.Coded code t) rest = refl
 behind i (places.Options pairs count) rest = refl
 behind i (places.Item class kind url.Absent part) rest = refl
 behind i (places.Item class kind (url.At u) part) rest = refl
+
+-- the body that ten numbers mean
+bodyTold : List ℕ → List ℕ → Body
+bodyTold bytes f =
+    if (eqb (f at SHAPE) 0) Body.empty
+    (if (eqb (f at SHAPE) 1) (Body.session (f at MAJOR) (f at MINOR) (slice bytes (f at START-1) (f at LENGTH-1)) (slice bytes (f at START-2) (f at LENGTH-2)))
+    (if (eqb (f at SHAPE) 2) (Body.text (slice bytes (f at START-1) (f at LENGTH-1)))
+    (if (eqb (f at SHAPE) 3) (Body.statement (f at FORMAT) (slice bytes (f at START-1) (f at LENGTH-1)))
+    (if (eqb (f at SHAPE) 4) (Body.coded (f at CODE) (slice bytes (f at START-1) (f at LENGTH-1)))
+    (if (eqb (f at SHAPE) 5) (Body.options (upTo (f at COUNT) (λ k. pairTold bytes (optionNumbers bytes (f at START-1) (f at LENGTH-1) k))))
+    (Body.item (f at CLASS) (f at TYPE) (if (eqb (f at HAS-URL) 0) Url.absent (Url.present (slice bytes (f at URL-START) (f at URL-LENGTH)))) (slice bytes (f at START-1) (f at LENGTH-1))))))))
+
+row-told : (bytes f : List ℕ) (b : Body) → Row bytes f b → b ≡ bodyTold bytes f
+unfolding bodyTold
+row-told bytes f b (Row.empty e z) = rw e
+row-told bytes f b (Row.session e z) = rw e
+row-told bytes f b (Row.text e z) = rw e
+row-told bytes f b (Row.statement e z) = rw e
+row-told bytes f b (Row.coded e z) = rw e
+row-told bytes f b (Row.options e z) = rw e
+row-told bytes f b (Row.item e z) = rw (e, z .1 .1 .1 .0)
+row-told bytes f b (Row.item-url e z u) = rw (e, u)
+
+pub one-message : (bytes f : List ℕ) (m m′ : Message) → Tells bytes f m → Tells bytes f m′ → m ≡ m′
+one-message bytes f m m′ t t′ =
+    let i : m .instruction ≡ m′ .instruction = sym (t .instruction) ∙ t′ .instruction in
+    let b : m .body ≡ m′ .body = row-told bytes f (m .body) (t .body) ∙ sym (row-told bytes f (m′ .body) (t′ .body)) in
+    λ x. record { instruction = i x; body = b x }

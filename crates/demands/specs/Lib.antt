@@ -5,6 +5,8 @@ pub mod Demand2
 pub mod Demand3
 pub mod Examples
 pub mod Exports
+pub mod Gatherings
 pub mod Header
+pub mod PartsCalls
 pub mod SednaCalls
 pub mod Transcript

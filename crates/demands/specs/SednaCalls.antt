@@ -66,6 +66,8 @@ pub data ListsRefused (instruction : ℕ) : Answered → Type 0 where
   value : (e : Entry) → InTable e → e .0 ≡ instruction → ListsRefused instruction (Answered.refusal 8)
 
 pub record SednaCalls : Type 0 where
+  -- ten numbers mean one message
+  pub one-message : (bytes f : List ℕ) (m m′ : Message) → Tells bytes f m → Tells bytes f m′ → m ≡ m′
   -- `kdr_read`, for any side's number, bytes and lent numbers
   pub read : (side : ℕ) (bytes lent : List ℕ) → IsBytes bytes
       → ReadRight side bytes lent (answered (readCode (sideReading side bytes) (length lent))) (fieldsLeft (sideReading side bytes) lent)

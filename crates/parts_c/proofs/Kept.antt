@@ -1,5 +1,4 @@
--- The lent numbers hold the assembly that is put there, and putting back the one that they hold leaves them as they are: so a refusal that marks nothing changes
--- nothing.
+-- Putting back the assembly that the lent numbers hold leaves them as they are: so a refusal that marks nothing changes nothing.
 use mathlib.Core.Bool.{Bool, true, false}
 use mathlib.Core.List.{List, [], _∷_}
 use mathlib.Core.Path.{_≡_, refl, ap, subst}
@@ -10,24 +9,9 @@ use lib.Dec.{eqb, ltb}
 use lib.ListN.{length, getD}
 use Rattle.wire.specs.Bytes.{if}
 use Rattle.assembly.specs.declared.Assembly.{Assembly}
-use Rattle.assembly.specs.declared.Open.{Open}
-use Rattle.assembly.specs.declared.Open.the-variants as gathering
 use Rattle.parts_c.specs.declared.joining.Kept.{Kept}
 use Rattle.parts_c.specs.declared.joining.Kept.the-variants as kept
 use Rattle.parts_c.specs.Joining.{openOf, openNumber, flagOf, assemblyIn, assemblyPut, keptIn}
-
-open-back : (o : Open) → openOf (openNumber o) ≡ o
-open-back gathering.Nothing = refl
-open-back gathering.Statement = refl
-open-back gathering.Item = refl
-open-back gathering.TypedItem = refl
-
-flag-back : (b : Bool) → eqb (flagOf b) 1 ≡ b
-flag-back true = refl
-flag-back false = refl
-
-pub in-put : (a : Assembly) (d : List ℕ) → assemblyIn (assemblyPut a d) ≡ a
-in-put a d = λ i. record { what = open-back (a .what) i; begun = flag-back (a .begun) i; held = a .held; overflowed = flag-back (a .overflowed) i; label = a .label }
 
 number-back : (n : ℕ) → n ≤ 3 → openNumber (openOf n) ≡ n
 number-back zero h = refl

@@ -1,0 +1,236 @@
+-- What the calls of cutting and joining tell is what they mean.
+use mathlib.Core.Bool.{Bool, true, false}
+use mathlib.Core.List.{List}
+use mathlib.Core.Logic.{_⊎_, inl, inr}
+use mathlib.Core.Option.{Option, none, some}
+use mathlib.Core.Path.{_≡_, refl, sym, ap, subst, _∙_}
+use Prim.Native.Nat.{ℕ, zero, suc, _+_, _-_, _≤_, _<_}
+use native.Mathlib.Omega.{arith}
+use lib.Dec.{eqb, ltb, leb}
+use lib.ListN.{length, drop, getElem?}
+use borrow.Author.Tests.{ltb-true, ltb-false, eqb-true, eqb-false}
+use Rattle.wire.specs.Bytes.{if}
+use Rattle.wire.specs.declared.Refusal.{Refusal}
+use Rattle.wire.specs.declared.Refusal.the-variants.{ValueNotAllowed, NoRoom, NoEncoding, NoSuchPart}
+use Rattle.wire.specs.Refusals.{numberOf, refusalCode}
+use Rattle.sedna.specs.declared.Side.{Side}
+use Rattle.sedna.specs.declared.Side.the-variants.{Client, Server}
+use Rattle.sedna.specs.Allowed.{allowed}
+use Rattle.sedna.specs.Encode.{bodyBytes}
+use Rattle.sedna.specs.Message.{Url, Message, shapeOf}
+use Rattle.sedna_read.specs.Meaning.{bodyIn}
+use Rattle.sedna_read.specs.Places.{placesOf, located}
+use Rattle.sedna_read.specs.Reading.{Answer, reading}
+use Rattle.sedna_exact.proofs.Branches.{apart}
+use Rattle.sedna_exact.proofs.Meaning.{meaning-located}
+use Rattle.fragments.specs.Cut.{cutStatement, cutItem, cutTypedItem}
+use Rattle.fragments.specs.declared.Parts.the-variants as parts
+use Rattle.fragments.specs.Part.{pieceCount, statementParts, itemPartsFrom, urlParts, writtenOf, partWritten}
+use Rattle.fragments.proofs.Counts.{statement-counted, item-counted, typed-item-counted}
+use Rattle.assembly.specs.declared.Answer.{Answer as Joins}
+use Rattle.assembly.specs.declared.Answer.the-variants as answer
+use Rattle.assembly.specs.declared.Assembly.{Assembly}
+use Rattle.assembly.specs.declared.Open.{Open}
+use Rattle.assembly.specs.declared.Open.the-variants.{Nothing, Statement, Item, TypedItem}
+use Rattle.assembly.specs.Answers.{Reply, reply, bytesHanded}
+use Rattle.assembly.specs.Joining.{opened, marked, joined, stored}
+use Rattle.assembly.proofs.Refusals.{handed-inside, refusal-leaves}
+use Rattle.sedna_c.specs.Codes.{writtenCode, sideReading}
+use Rattle.parts_c.specs.declared.joining.Kept.{Kept}
+use Rattle.parts_c.specs.declared.joining.Kept.the-variants as kept
+use Rattle.parts_c.specs.Joining.{openOf, assemblyPut, keptIn, openCode, openLeft, answerCode, toldLeft, Outcome, unchanged, messageJoined, readingJoined, keptJoined, outcome}
+use Rattle.parts_c.specs.Parts.{partsCode}
+use Rattle.parts_c.proofs.Kept.{kept-same}
+use Rattle.demands.specs.Answered.{Answered, answered}
+use Rattle.demands.specs.Gatherings.{Gathering, Means, TOLD-LENGTH, TellsReply}
+use Rattle.demands.specs.Header.{_at_, SideOf}
+use Rattle.demands.specs.PartsCalls.{SIZES, OpenRight, Join, JoinLeft, joinCalled, untouched, Lent, Offers, replied, grownTo, JoinRight, PartsCalls}
+use Rattle.demands.specs.SednaCalls.{writtenAs}
+use Rattle.demands.proofs.Gatherings.{gathering-of, means-put, means-bytes, Judged, kept-judged, joined-bytes, one-assembly, one-reply}
+use Rattle.demands.proofs.SednaCalls.{Sides, sides, is-client, is-server, side-read, side-nobody, write}
+use Rattle.demands.proofs.Tells.{counted, refused, read-count}
+
+-- so many pieces are below 2^63
+few-pieces : (n : ℕ) → n < SIZES → (pieceCount 10234 n < 4611686018427387904) × (pieceCount 10235 n < 4611686018427387904)
+few-pieces zero h = (omega arith, omega arith)
+few-pieces (suc n) h = (omega (arith, h), omega (arith, h))
+
+statement-short : (n : ℕ) → n < SIZES → statementParts n < 9223372036854775808
+statement-short n h = by (leb n 10234)
+  where
+    few : pieceCount 10234 n < 4611686018427387904
+    few = few-pieces n h .0
+
+    by : (t : Bool) → if t 1 (pieceCount 10234 n + 1) < 9223372036854775808
+    by true = omega arith
+    by false = omega (arith, few)
+
+item-short : (first n : ℕ) → n < SIZES → itemPartsFrom first n < 9223372036854775808
+item-short first n h = let few = few-pieces (n - first) (omega (arith, h)) .1 in omega (arith, few)
+
+statement-parts : (format : ℕ) (text : List ℕ) → length text < SIZES → answered (statementParts (length text)) ≡ Answered.count (length (cutStatement format text))
+statement-parts format text h = counted (statementParts (length text)) (statement-short (length text) h) ∙ ap Answered.count (sym (statement-counted format text))
+
+item-parts : (text : List ℕ) → length text < SIZES → answered (itemPartsFrom 10235 (length text)) ≡ Answered.count (length (cutItem text))
+item-parts text h = counted (itemPartsFrom 10235 (length text)) (item-short 10235 (length text) h) ∙ ap Answered.count (sym (item-counted text))
+
+typed-item-parts : (class kind : ℕ) (text : List ℕ) → length text < SIZES
+    → answered (itemPartsFrom 10232 (length text)) ≡ Answered.count (length (cutTypedItem class kind Url.absent text))
+typed-item-parts class kind text h =
+    counted (itemPartsFrom 10232 (length text)) (item-short 10232 (length text) h) ∙ ap Answered.count (sym (typed-item-counted class kind Url.absent text))
+
+typed-item-url-parts : (class kind : ℕ) (url text : List ℕ) → length text < SIZES
+    → answered (partsCode (urlParts (length text) (length url)))
+    ≡ if (leb (length url) 10227) (Answered.count (length (cutTypedItem class kind (Url.present url) text))) (Answered.refusal 11)
+typed-item-url-parts class kind url text h = by (leb (length url) 10227)
+  where
+    by : (t : Bool) → answered (partsCode (if t (parts.Are (itemPartsFrom (10227 - length url) (length text))) (parts.Refused NoEncoding)))
+        ≡ if t (Answered.count (length (cutTypedItem class kind (Url.present url) text))) (Answered.refusal 11)
+    by true = counted (itemPartsFrom (10227 - length url) (length text)) (item-short (10227 - length url) (length text) h)
+        ∙ ap Answered.count (sym (typed-item-counted class kind (Url.present url) text))
+    by false = refused NoEncoding
+
+write-part : (ok encodable : Bool) (cut : List Message) (k room : ℕ)
+    → answered (writtenCode (partWritten ok encodable cut k room)) ≡ writtenAs (partWritten ok encodable cut k room)
+write-part false encodable cut k room = refused ValueNotAllowed
+write-part true false cut k room = refused NoEncoding
+write-part true true cut k room = by (getElem? cut k)
+  where
+    by : (o : Option Message) → answered (writtenCode (writtenOf room o)) ≡ writtenAs (writtenOf room o)
+    by none = refused NoSuchPart
+    by (some m) = write (m .instruction) (shapeOf (m .body)) (allowed (m .body)) (length (bodyBytes (m .body))) room
+
+opens : (what : ℕ) (d : List ℕ) → OpenRight what d (answered (openCode what d)) (openLeft what d)
+opens what d = by (ltb (length d) 7) refl (eqb what 0) refl (ltb 3 what) refl
+  where
+    only : (n : ℕ) (o : Open) → Gathering n o → (n ≡ what) → (what ≡ 0) ⊎ (3 < what) → o ≡ Nothing
+    only n o Gathering.nothing e z = refl
+    only n o Gathering.statement e (inl z) = absurd (omega (arith, e, z))
+    only n o Gathering.statement e (inr z) = absurd (omega (arith, e, z))
+    only n o Gathering.item e (inl z) = absurd (omega (arith, e, z))
+    only n o Gathering.item e (inr z) = absurd (omega (arith, e, z))
+    only n o Gathering.typed-item e (inl z) = absurd (omega (arith, e, z))
+    only n o Gathering.typed-item e (inr z) = absurd (omega (arith, e, z))
+
+    some-one : (n : ℕ) (o : Open) → Gathering n o → ¬ (n ≡ 0) → ¬ (o ≡ Nothing)
+    some-one n o Gathering.nothing z = absurd (z refl)
+    some-one n o Gathering.statement z = λ e. apart (cc)
+    some-one n o Gathering.item z = λ e. apart (cc)
+    some-one n o Gathering.typed-item z = λ e. apart (cc)
+
+    by : (t : Bool) → ltb (length d) 7 ≡ t → (u : Bool) → eqb what 0 ≡ u → (v : Bool) → ltb 3 what ≡ v
+        → OpenRight what d (answered (if t (refusalCode NoRoom) (if u (refusalCode ValueNotAllowed) (if v (refusalCode ValueNotAllowed) 0))))
+        (if t d (if u d (if v d (assemblyPut (opened (openOf what)) d))))
+    by true short u p v q = rw (refused NoRoom) (OpenRight.few (ltb-true (length d) 7 short))
+    by false room true p v q =
+        let z = eqb-true what 0 p in
+        rw (refused ValueNotAllowed) (OpenRight.other (ltb-false (length d) 7 room) (λ o g. only what o g refl (inl z)))
+    by false room false p true q =
+        let z = ltb-true 3 what q in
+        rw (refused ValueNotAllowed) (OpenRight.other (ltb-false (length d) 7 room) (λ o g. only what o g refl (inr z)))
+    by false room false p false q =
+        let g = gathering-of what (ltb-false 3 what q) in
+        rw (counted 0 (omega arith))
+        (OpenRight.fresh (openOf what) (assemblyPut (opened (openOf what)) d) (ltb-false (length d) 7 room) g (some-one what (openOf what) g (eqb-false what 0 p))
+        (means-put (opened (openOf what)) d (omega arith, omega arith, omega arith)) refl)
+
+-- an outcome, its code turned back
+abbrev turned : Outcome → JoinLeft
+turned o = record { answer = answered (o .code); assembly = o .assembly; buffer = o .buffer; told = o .told }
+
+module _ (c : Join) where
+  stays : (r : Refusal) → JoinRight c (untouched (numberOf r) c) → JoinRight c (turned (unchanged r (c .assembly) (c .buffer) (c .told)))
+  stays r x = rw (refused r) x
+
+  module _ (lent : Lent c) (a : Assembly) (is-kept : keptIn (c .assembly) ≡ kept.Is a) (means : Means (c .assembly) a) where
+    module _ (s : Side) (is : SideOf (c .side) s) (m : Message) (n : ℕ) (e : reading s (c .bytes) ≡ Answer.accepted m n) where
+      offers : Offers c a m n
+      offers = record { lent = lent; means = means; side = s; is = is; read = e }
+
+      means-after : Means (assemblyPut (grownTo c a m) (c .assembly)) (grownTo c a m)
+      means-after = means-put (grownTo c a m) (c .assembly) (joined-bytes a (length (c .buffer)) m (means-bytes means))
+
+      message-joined : JoinRight c (turned (messageJoined m n a (c .assembly) (c .buffer) (c .told)))
+      message-joined = by (joined a (length (c .buffer)) m .answer) refl
+        where
+          inside : bytesHanded (replied c a m) ≤ length (c .buffer)
+          inside = handed-inside a (length (c .buffer)) m
+
+          Goal : Joins → Type 0
+          Goal x = JoinRight c (record { answer = answered (answerCode x n); assembly = assemblyPut (grownTo c a m) (c .assembly); buffer = stored a (c .buffer) m; told = toldLeft x (c .told) })
+
+          took : (x : Joins) → joined a (length (c .buffer)) m .answer ≡ x → answerCode x n ≡ n → TellsReply (toldLeft x (c .told)) (reply x)
+              → toldLeft x (c .told) at TOLD-LENGTH ≡ bytesHanded (reply x) → drop 4 (toldLeft x (c .told)) ≡ drop 4 (c .told) → Goal x
+          took x q code tells size behind =
+              rw (code, read-count s (c .bytes) (c .are-bytes) m n e)
+              (JoinRight.taken a m n (assemblyPut (grownTo c a m) (c .assembly)) (toldLeft x (c .told)) offers
+              (subst (TellsReply (toldLeft x (c .told))) (sym (ap reply q)) tells)
+              (subst (λ (k : ℕ). k ≤ length (c .buffer)) (ap (λ (y : Joins). bytesHanded (reply y)) q ∙ sym size) inside)
+              behind means-after refl)
+
+          by : (x : Joins) → joined a (length (c .buffer)) m .answer ≡ x → Goal x
+          by answer.Part q = took answer.Part q refl (TellsReply.part Gathering.nothing (refl, (refl, (refl, tt)))) refl refl
+          by (answer.Statement format k) q = took (answer.Statement format k) q refl (TellsReply.statement Gathering.statement) refl refl
+          by (answer.Item k) q = took (answer.Item k) q refl (TellsReply.item Gathering.item) refl refl
+          by (answer.TypedItem class kind k) q = took (answer.TypedItem class kind k) q refl (TellsReply.typed-item Gathering.typed-item) refl refl
+          by (answer.Refused r) q =
+              let number : replied c a m ≡ Reply.number (numberOf r) = ap reply q in
+              let leaves = refusal-leaves a (c .buffer) m (numberOf r) number in
+              rw (refused r, leaves .buffer) (JoinRight.refused a m n (numberOf r) (assemblyPut (grownTo c a m) (c .assembly)) offers number (mark (numberOf r) (leaves .assembly)) means-after refl)
+            where
+              mark : (k : ℕ) → (grownTo c a m ≡ a) ⊎ (k ≡ 12) × (grownTo c a m ≡ marked a)
+                  → (assemblyPut (grownTo c a m) (c .assembly) ≡ c .assembly) ⊎ ((k ≡ 12) × Means (assemblyPut (grownTo c a m) (c .assembly)) (marked a))
+              mark k (inl z) = inl (ap (λ (b : Assembly). assemblyPut b (c .assembly)) z ∙ kept-same (c .assembly) a (lent .0) is-kept)
+              mark k (inr z) = inr (z .0, subst (Means (assemblyPut (grownTo c a m) (c .assembly))) (z .1) means-after)
+
+    by-side : (s : Side) → SideOf (c .side) s → JoinRight c (turned (readingJoined (located (reading s (c .bytes))) a (c .bytes) (c .assembly) (c .buffer) (c .told)))
+    by-side s is = by (reading s (c .bytes)) refl
+      where
+        by : (x : Answer) → reading s (c .bytes) ≡ x → JoinRight c (turned (readingJoined (located x) a (c .bytes) (c .assembly) (c .buffer) (c .told)))
+        by (Answer.refused r) e = stays r (JoinRight.unread a s r lent means is e)
+        by (Answer.accepted m n) e = subst (λ (x : Message). JoinRight c (turned (messageJoined x n a (c .assembly) (c .buffer) (c .told)))) (sym same) (message-joined s is m n e)
+          where
+            messageOf : Answer → Message
+            messageOf (Answer.refused r) = m
+            messageOf (Answer.accepted k j) = k
+
+            same : record { instruction = m .instruction; body = bodyIn (c .bytes) (placesOf 8 (n - 8) (m .body)) } ≡ m
+            same = ap messageOf (rw e at (meaning-located s (c .bytes) (c .are-bytes)))
+
+    with-assembly : JoinRight c (turned (readingJoined (sideReading (c .side) (c .bytes)) a (c .bytes) (c .assembly) (c .buffer) (c .told)))
+    with-assembly = by (sides (c .side))
+      where
+        by : Sides (c .side) → JoinRight c (turned (readingJoined (sideReading (c .side) (c .bytes)) a (c .bytes) (c .assembly) (c .buffer) (c .told)))
+        by (Sides.one e) = rw (side-read (c .side) Client (c .bytes) (is-client e)) (by-side Client (is-client e))
+        by (Sides.two o e) = rw (side-read (c .side) Server (c .bytes) (is-server e)) (by-side Server (is-server e))
+        by (Sides.neither o p nobody) = rw (side-nobody (c .side) (c .bytes) o p) (stays ValueNotAllowed (JoinRight.nobody a lent means nobody))
+
+  join : JoinRight c (joinCalled c)
+  unfolding outcome
+  join = by (ltb (length (c .assembly)) 7) refl (ltb (length (c .told)) 4) refl
+    where
+      kept-so : Lent c → (k : Kept) → keptIn (c .assembly) ≡ k → Judged (c .assembly) k
+          → JoinRight c (turned (keptJoined k (sideReading (c .side) (c .bytes)) (c .bytes) (c .assembly) (c .buffer) (c .told)))
+      kept-so lent kept.Nothing e (Judged.none nobody) = stays ValueNotAllowed (JoinRight.no-assembly lent nobody)
+      kept-so lent (kept.Is a) e (Judged.is means) = with-assembly lent a e means
+
+      by : (t : Bool) → ltb (length (c .assembly)) 7 ≡ t → (u : Bool) → ltb (length (c .told)) 4 ≡ u
+          → JoinRight c (turned (if t (unchanged NoRoom (c .assembly) (c .buffer) (c .told)) (if u (unchanged NoRoom (c .assembly) (c .buffer) (c .told))
+          (keptJoined (keptIn (c .assembly)) (sideReading (c .side) (c .bytes)) (c .bytes) (c .assembly) (c .buffer) (c .told)))))
+      by true p u q = stays NoRoom (JoinRight.few (inl (ltb-true (length (c .assembly)) 7 p)))
+      by false p true q = stays NoRoom (JoinRight.few (inr (ltb-true (length (c .told)) 4 q)))
+      by false p false q =
+          kept-so (ltb-false (length (c .assembly)) 7 p, ltb-false (length (c .told)) 4 q) (keptIn (c .assembly)) refl (kept-judged (c .assembly))
+
+pub parts-calls : PartsCalls
+parts-calls = record {
+  one-assembly = one-assembly;
+  one-reply = one-reply;
+  statement-parts = statement-parts;
+  item-parts = item-parts;
+  typed-item-parts = typed-item-parts;
+  typed-item-url-parts = typed-item-url-parts;
+  write-part = write-part;
+  «open» = opens;
+  join = join;
+}
