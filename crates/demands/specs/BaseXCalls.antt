@@ -38,32 +38,21 @@ use Rattle.basex_exact.specs.Exactly.{Cut, partsOf, Means, Unwritten, MeansItem
 use Rattle.basex_exact.specs.Moments.{Encoded, Begun, nextBytes, NextAllowed, BadId, BadItem}
 use Rattle.basex_c.specs.Codes.{Outcome, code, toldIn, storedIn}
 use Rattle.basex_c.specs.Told.{spelledCode, judging, decoding, requestRead, responseRead, itemRead}
-
--- KDR_REFUSED: what a refusal's number stands on top of
-abbrev pub refusedFrom : ℕ
-refusedFrom = 9223372036854775808
-
--- what kdr_refused and kdr_refusal make of an answer: a count, or a refusal's number
-pub data Answer : Type 0 where
-  count : ℕ → Answer
-  refusal : ℕ → Answer
-
-abbrev pub answerOf : ℕ → Answer
-answerOf a = if (ltb a refusedFrom) (Answer.count a) (Answer.refusal (a - refusedFrom))
+use Rattle.demands.specs.Answered.{Answered, REFUSED, answered}
 
 -- a slice that can be lent: none in memory has 2^63 elements
 abbrev pub Lendable : List ℕ → Type 0
-Lendable s = length s < refusedFrom
+Lendable s = length s < REFUSED
 
 -- what a call answers, and what it leaves in the lent output and in the lent numbers; none where it is lent none
 pub record Called : Type 0 where
-  pub answer : Answer
+  pub answer : Answered
   pub out : List ℕ
   pub told : List ℕ
 
 -- the right sides of the contracts, call by call: first of those that tell numbers ..
 abbrev pub telling : List ℕ → List ℕ → List ℕ → Outcome → Called
-telling out stored told o = record { answer = answerOf (code o); out = storedIn out stored o; told = toldIn told o }
+telling out stored told o = record { answer = answered (code o); out = storedIn out stored o; told = toldIn told o }
 
 abbrev pub stringAtCalled : List ℕ → ℕ → List ℕ → Called
 stringAtCalled s at told = telling [] [] told (judging s at (length told))
@@ -82,7 +71,7 @@ itemCalled kind s at told = telling [] [] told (itemRead kind s at (length told)
 
 -- .. and then of those that write
 abbrev pub writing : ℕ → List ℕ → Called
-writing answer out = record { answer = answerOf answer; out = out; told = [] }
+writing answer out = record { answer = answered answer; out = out; told = [] }
 
 abbrev pub writeStringCalled : List ℕ → ℕ → List ℕ → Called
 writeStringCalled out at text = writing (spelledCode (spelling (length out) at text)) (placed out at (string text))
@@ -104,7 +93,7 @@ writeEndCalled out at kind first second status error =
 
 -- "A refusal returns its number alone": everything that was lent is as it was
 abbrev pub refusedWith : Refusal → List ℕ → List ℕ → Called
-refusedWith r out told = record { answer = Answer.refusal (numberOf r); out = out; told = told }
+refusedWith r out told = record { answer = Answered.refusal (numberOf r); out = out; told = told }
 
 -- a call that was lent an output and numbers came out right: refused where a refusal is due, or accepted
 pub data Right (Due : Refusal → Type 0) (Accepted : Called → Type 0) (out told : List ℕ) (c : Called) : Type 0 where
@@ -135,7 +124,7 @@ pub record StringRead (s : List ℕ) (at : ℕ) (told : List ℕ) (c : Called) :
   pub text : List ℕ
   pub rest : List ℕ
   pub stands : drop at s ≡ string text ++ rest
-  pub counted : c .answer ≡ Answer.count (length (string text))
+  pub counted : c .answer ≡ Answered.count (length (string text))
   pub long : stringLength (c .told) ≡ length text
   pub fields : Fields 1 told (c .told)
 
@@ -167,7 +156,7 @@ pub record RequestRead (s out told : List ℕ) (c : Called) : Type 0 where
   pub rest : List ℕ
   pub published : request.Published value
   pub stands : s ≡ request.encode value ++ rest
-  pub counted : c .answer ≡ Answer.count (length (request.encode value))
+  pub counted : c .answer ≡ Answered.count (length (request.encode value))
   pub named : requestNumbers (c .told) .kind ≡ kindOf value
   pub texts : RequestTexts (requestNumbers (c .told)) (c .out) (padded (textsOf value))
   pub fields : Fields 5 told (c .told)
@@ -195,7 +184,7 @@ pub record ResponseRead (kind : ℕ) (s out told : List ℕ) (c : Called) : Type
   pub value : Response
   pub rest : List ℕ
   pub stands : Stands kind value s rest
-  pub counted : c .answer ≡ Answer.count (length (response.encode (stands .reply) value))
+  pub counted : c .answer ≡ Answered.count (length (response.encode (stands .reply) value))
   pub items : responseNumbers (c .told) .items ≡ length (value .items)
   pub status : responseNumbers (c .told) .status ≡ value .status
   pub texts : ResponseTexts (responseNumbers (c .told)) (c .out) (partsOf value)
@@ -246,7 +235,7 @@ pub record ItemRead (kind : ℕ) (s : List ℕ) (at : ℕ) (told : List ℕ) (c 
   pub rest : List ℕ
   pub allowed : ItemAllowed full item
   pub stands : drop at s ≡ itemBytes item ++ rest
-  pub counted : c .answer ≡ Answer.count (length (itemBytes item))
+  pub counted : c .answer ≡ Answered.count (length (itemBytes item))
   pub named : itemNumbers (c .told) .id ≡ item .id
   pub uri : itemNumbers (c .told) .uri ≡ length (uriOf full item)
   pub text : itemNumbers (c .told) .text ≡ length (textOf full item)
@@ -258,13 +247,13 @@ pub record ItemsEnd (kind : ℕ) (s : List ℕ) (at : ℕ) (told : List ℕ) (c 
   pub lists : Lists kind full
   pub rest : List ℕ
   pub stands : drop at s ≡ 0 ∷ rest
-  pub counted : c .answer ≡ Answer.count 0
+  pub counted : c .answer ≡ Answered.count 0
   pub untold : c .told ≡ told
 
 -- an item by the numbers told, its texts cut out of the output from `to` on, and what comes then; none at the end of the items or a refusal
-abbrev pub onward : Bool → List ℕ → ℕ → ℕ → Answer → ItemNumbers → (ℕ → ℕ → List Item) → List Item
-onward full out at to (Answer.refusal r) t then = []
-onward full out at to (Answer.count n) t then =
+abbrev pub onward : Bool → List ℕ → ℕ → ℕ → Answered → ItemNumbers → (ℕ → ℕ → List Item) → List Item
+onward full out at to (Answered.refusal r) t then = []
+onward full out at to (Answered.count n) t then =
     if (eqb n 0) []
     (itemOf full (t .id) (take (t .uri) (drop to out)) (take (t .text) (drop (to + t .uri) out)) ∷ then (at + n) (to + (t .uri + t .text)))
 
@@ -278,7 +267,7 @@ walked (suc n) kind s out told at to =
 pub record Written (Is : List ℕ → Type 0) (out : List ℕ) (at : ℕ) (c : Called) : Type 0 where
   pub bytes : List ℕ
   pub is : Is bytes
-  pub counted : c .answer ≡ Answer.count (length bytes)
+  pub counted : c .answer ≡ Answered.count (length bytes)
   pub fits : at + length bytes ≤ length out
   pub there : c .out ≡ over out at bytes
 
@@ -295,7 +284,7 @@ EndBytes kind first second status error e =
 
 pub record BaseXCalls : Type 0 where
   -- kdr_basex_string_len is never refused: for texts below 2^62 bytes its answer is a count as any other
-  pub string-len : (text : List ℕ) → length text < 4611686018427387904 → answerOf (length (string text)) ≡ Answer.count (length (string text))
+  pub string-len : (text : List ℕ) → length text < 4611686018427387904 → answered (length (string text)) ≡ Answered.count (length (string text))
   pub write-string : (out : List ℕ) → Lendable out → (at : ℕ) (text : List ℕ)
       → Right (λ r. (r ≡ NoRoom) × (length out < at + length (string text))) (Written (λ e. e ≡ string text) out at)
       out [] (writeStringCalled out at text)

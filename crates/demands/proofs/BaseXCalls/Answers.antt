@@ -15,28 +15,29 @@ use Rattle.wire.specs.Refusals.{numberOf, refusalCode}
 use Rattle.basex_string.specs.declared.StringAt.the-variants as place
 use Rattle.basex_exact.specs.Exactly as exact
 use Rattle.basex_c.specs.Codes.{Outcome, lent}
-use Rattle.demands.specs.BaseXCalls.{refusedFrom, Answer, answerOf, Lendable, Called, telling, Right, Unread, Fields}
+use Rattle.demands.specs.Answered.{REFUSED, Answered, answered}
+use Rattle.demands.specs.BaseXCalls.{Lendable, Called, telling, Right, Unread, Fields}
 
 -- a refusal's number among counts, and a count
-pub refusal-is : (r : Refusal) → answerOf (refusalCode r) ≡ Answer.refusal (numberOf r)
+pub refusal-is : (r : Refusal) → answered (refusalCode r) ≡ Answered.refusal (numberOf r)
 refusal-is r =
-    let h : refusedFrom ≤ refusalCode r = omega arith in
-    let k : refusalCode r - refusedFrom ≡ numberOf r = omega arith in
-    rw (le-ltb (refusalCode r) refusedFrom h) (ap Answer.refusal k)
+    let h : REFUSED ≤ refusalCode r = omega arith in
+    let k : refusalCode r - REFUSED ≡ numberOf r = omega arith in
+    rw (le-ltb (refusalCode r) REFUSED h) (ap Answered.refusal k)
 
-pub count-is : (n m : ℕ) → n ≡ m → m < refusedFrom → answerOf n ≡ Answer.count m
-count-is n m e h = rw (e, lt-ltb m refusedFrom h)
+pub count-is : (n m : ℕ) → n ≡ m → m < REFUSED → answered n ≡ Answered.count m
+count-is n m e h = rw (e, lt-ltb m REFUSED h)
 
 -- bytes that stand at `at` are counted by where what follows them starts
 module _ (s : List ℕ) (short : Lendable s) (bytes : List ℕ) (n : ℕ) (place : n ≤ length s) where
-  pub counts : (at : ℕ) → drop at s ≡ bytes ++ drop n s → answerOf (n - at) ≡ Answer.count (length bytes)
+  pub counts : (at : ℕ) → drop at s ≡ bytes ++ drop n s → answered (n - at) ≡ Answered.count (length bytes)
   counts at e =
       let l = ap length e ∙ length-append bytes (drop n s) in
       let a = length-drop at s in
       let b = length-drop n s in
       count-is (n - at) (length bytes) (omega arith) (omega arith)
 
-  pub counts-front : s ≡ bytes ++ drop n s → answerOf n ≡ Answer.count (length bytes)
+  pub counts-front : s ≡ bytes ++ drop n s → answered n ≡ Answered.count (length bytes)
   counts-front e =
       let l = ap length e ∙ length-append bytes (drop n s) in
       let b = length-drop n s in
@@ -45,11 +46,11 @@ module _ (s : List ℕ) (short : Lendable s) (bytes : List ℕ) (n : ℕ) (place
 module _ {Due : Refusal → Type 0} {Accepted : Called → Type 0} (out stored told : List ℕ) where
   -- a refusal leaves everything
   pub refuses : (r : Refusal) → Due r → Right Due Accepted out told (telling out stored told (Outcome.refused r))
-  refuses r d = Right.refused r d (ap (λ (a : Answer). record { answer = a; out = out; told = told }) (refusal-is r))
+  refuses r d = Right.refused r d (ap (λ (a : Answered). record { answer = a; out = out; told = told }) (refusal-is r))
 
   -- a count with numbers to tell: "with 10 last"
   pub tells : (n : ℕ) (ns : List ℕ) → (length told < length ns → Due NoRoom)
-      → (length ns ≤ length told → Accepted (record { answer = answerOf n; out = stored; told = ns ++ drop (length ns) told }))
+      → (length ns ≤ length told → Accepted (record { answer = answered n; out = stored; told = ns ++ drop (length ns) told }))
       → Right Due Accepted out told (telling out stored told (lent (length told) (Outcome.counted n ns)))
   tells n ns short full = by (ltb (length told) (length ns)) refl
     where

@@ -26,7 +26,8 @@ use Rattle.basex_exact.proofs.Listed.{OfFields, next-refuses, next-item}
 use Rattle.basex_exact.proofs.Moments.{item-moments}
 use Rattle.basex_c.specs.Codes.{lent}
 use Rattle.basex_c.specs.Told.{itemTold, itemIn}
-use Rattle.demands.specs.BaseXCalls.{Answer, Lendable, Called, telling, refusedWith, Right, Lists, ItemDue, ItemRead, ItemsEnd, itemCalled}
+use Rattle.demands.specs.Answered.{Answered}
+use Rattle.demands.specs.BaseXCalls.{Lendable, Called, telling, refusedWith, Right, Lists, ItemDue, ItemRead, ItemsEnd, itemCalled}
 use Rattle.demands.proofs.BaseXCalls.Answers.{refusal-is, counts, refuses, tells, in-front}
 
 pub item-some : (i : Item) → 0 < length (itemBytes i)
@@ -59,7 +60,7 @@ module _ (kind : ℕ) (s : List ℕ) (at : ℕ) where
     comes y = telling [] [] told (lent (length told) (itemTold at y))
 
     pub refused-as : (r : Refusal) → comes (item-at.Refused r) ≡ refusedWith r [] told
-    refused-as r = ap (λ (a : Answer). record { answer = a; out = []; told = told }) (refusal-is r)
+    refused-as r = ap (λ (a : Answered). record { answer = a; out = []; told = told }) (refusal-is r)
 
     refused-so : (r : Refusal) → itemIn kind s at ≡ item-at.Refused r → itemCalled kind s at told ≡ refusedWith r [] told
     refused-so r e = ap comes e ∙ refused-as r

@@ -21,19 +21,20 @@ use Rattle.basex_request.proofs.Laws as request-laws
 use Rattle.basex_response.specs.declared.Replied.{Replied}
 use Rattle.basex_response.specs.declared.Replied.the-variants as replied
 use Rattle.basex_response.specs.Reading as responses
-use Rattle.basex_response.specs.Reading.{allTexts, answered}
+use Rattle.basex_response.specs.Reading.{allTexts}
 use Rattle.basex_exact.specs.Exactly as exact
 use Rattle.basex_exact.proofs.Exactly.{told-exactly}
 use Rattle.basex_exact.proofs.Responses.{response-exact}
 use Rattle.basex_c.specs.Codes.{lent}
 use Rattle.basex_c.specs.Told.{stringTold, requestTold, responseTold}
 use Rattle.demands.specs.BaseXCalls as calls
-use Rattle.demands.specs.BaseXCalls.{answerOf, Lendable, telling, Right, Unread, NoPlace, StringRead, Decoded, RequestRead, ResponseRead}
+use Rattle.demands.specs.Answered.{answered}
+use Rattle.demands.specs.BaseXCalls.{Lendable, telling, Right, Unread, NoPlace, StringRead, Decoded, RequestRead, ResponseRead}
 use Rattle.demands.proofs.BaseXCalls.Answers.{counts, counts-front, refuses, tells, in-front, due}
 
 module _ (s : List ℕ) (short : Lendable s) (at : ℕ) (told : List ℕ) where
   located-so : (len n : ℕ) (out : List ℕ) (text : List ℕ) → exact.Reads (strings.reading (drop at s)) s n text → len ≡ length text → 1 ≤ length told
-      → StringRead s at told (record { answer = answerOf (n - at); out = out; told = (len ∷ []) ++ drop 1 told })
+      → StringRead s at told (record { answer = answered (n - at); out = out; told = (len ∷ []) ++ drop 1 told })
   located-so len n out text r l h =
       let e = string-laws.exact (drop at s) text (drop n s) (r .read) in
       record { text = text; rest = drop n s; stands = e; counted = counts s short (string text) n (r .place) at e; long = l; fields = in-front (len ∷ []) told h }
@@ -91,9 +92,9 @@ module _ (s : List ℕ) (short : Lendable s) (out told : List ℕ) where
 
 module _ (kind : ℕ) (s : List ℕ) (short : Lendable s) (out told : List ℕ) where
   pub read-response : Right (Unread (responses.reading kind s) (λ p. NoPlace out (length (flatten (allTexts p))) told 6)) (ResponseRead kind s out told) out told (calls.readResponseCalled kind s out told)
-  read-response = by (answered (length s) (length out) (responses.reading kind s)) refl
+  read-response = by (responses.answered (length s) (length out) (responses.reading kind s)) refl
     where
-      by : (y : Replied) → answered (length s) (length out) (responses.reading kind s) ≡ y
+      by : (y : Replied) → responses.answered (length s) (length out) (responses.reading kind s) ≡ y
           → Right (Unread (responses.reading kind s) (λ p. NoPlace out (length (flatten (allTexts p))) told 6)) (ResponseRead kind s out told) out told
           (telling out (responses.left out (responses.reading kind s)) told (lent (length told) (responseTold y)))
       by (replied.Refused r) e = refuses out (responses.left out (responses.reading kind s)) told r (due (λ p h. inl h) (told-exactly .response-refused kind s out r .0 e))

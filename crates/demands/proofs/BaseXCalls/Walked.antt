@@ -27,7 +27,8 @@ use Rattle.basex_exact.proofs.Exactly.{told-exactly}
 use Rattle.basex_exact.proofs.Laws.{items-all}
 use Rattle.basex_exact.proofs.Responses.{response-exact}
 use Rattle.basex_c.specs.Codes.{Outcome, lent}
-use Rattle.demands.specs.BaseXCalls.{Answer, answerOf, Lendable, Called, telling, Lists, itemNumbers, onward, walked}
+use Rattle.demands.specs.Answered.{Answered, answered}
+use Rattle.demands.specs.BaseXCalls.{Lendable, Called, telling, Lists, itemNumbers, onward, walked}
 use Rattle.demands.proofs.BaseXCalls.Answers.{counts}
 use Rattle.demands.proofs.BaseXCalls.Items.{item-some, asks, refused-as, item, comes}
 
@@ -37,7 +38,7 @@ module _ (kind : ℕ) (s : List ℕ) (short : Lendable s) (out told : List ℕ) 
   goes at to then c = onward full out at to (c .answer) (itemNumbers (c .told)) then
 
   counted-as : (n : ℕ) (ns : List ℕ) → length ns ≤ length told
-      → telling [] [] told (lent (length told) (Outcome.counted n ns)) ≡ record { answer = answerOf n; out = []; told = ns ++ drop (length ns) told }
+      → telling [] [] told (lent (length told) (Outcome.counted n ns)) ≡ record { answer = answered n; out = []; told = ns ++ drop (length ns) told }
   counted-as n ns h = rw (le-ltb (length told) (length ns) h)
 
   step : (at to : ℕ) (then more : ℕ → ℕ → List Item) → ((a t : ℕ) → then a t ≡ more a t) → (y : ItemAt) → itemAt full at (length s - at) (next full (drop at s)) ≡ y
@@ -55,7 +56,7 @@ module _ (kind : ℕ) (s : List ℕ) (short : Lendable s) (out told : List ℕ) 
       let z : at + length bytes ≡ n = omega (arith, item-some (t .item)) in
       let i = itemOf full id (take uri (drop to out)) (take text (drop (to + uri) out)) in
       ap (goes at to then) (counted-as (n - at) (id ∷ uri ∷ text ∷ []) three)
-      ∙ ap (λ (x : Answer). onward full out at to x (record { id = id; uri = uri; text = text }) then) c
+      ∙ ap (λ (x : Answered). onward full out at to x (record { id = id; uri = uri; text = text }) then) c
       ∙ rw (ne-eqb (length bytes) 0 (λ w. omega (arith, item-some (t .item)))) (ap (λ (is : List Item). i ∷ is) (same (at + length bytes) (to + (uri + text)) ∙ ap (λ (m : ℕ). more m (to + (uri + text))) z))
 
   module _ (whole : fullOf (findOf kind) ≡ full) where

@@ -23,13 +23,14 @@ use Rattle.basex_exact.specs.Exactly as exact
 use Rattle.basex_exact.proofs.Exactly.{written-exactly}
 use Rattle.basex_c.specs.Told.{spelledCode}
 use Rattle.demands.specs.BaseXCalls as calls
-use Rattle.demands.specs.BaseXCalls.{Answer, Lendable, Right, Written}
+use Rattle.demands.specs.Answered.{Answered}
+use Rattle.demands.specs.BaseXCalls.{Lendable, Right, Written}
 use Rattle.demands.proofs.BaseXCalls.Answers.{refusal-is, count-is}
 
 -- a call of writing, by what the library answers and leaves
 module _ {Due : Refusal → Type 0} {Is : List ℕ → Type 0} (out : List ℕ) (short : Lendable out) (at : ℕ) where
   unwritten : (r : Refusal) {after : List ℕ} → Due r → after ≡ out → Right Due (Written Is out at) out [] (calls.writing (refusalCode r) after)
-  unwritten r {after} d e = Right.refused r d (ap₂ (λ (a : Answer) (o : List ℕ). record { answer = a; out = o; told = [] }) (refusal-is r) e)
+  unwritten r {after} d e = Right.refused r d (ap₂ (λ (a : Answered) (o : List ℕ). record { answer = a; out = o; told = [] }) (refusal-is r) e)
 
   wrote : (n : ℕ) (bytes : List ℕ) {after : List ℕ} → Is bytes → exact.Fits (length out) at bytes n → after ≡ over out at bytes → Right Due (Written Is out at) out [] (calls.writing n after)
   wrote n bytes i f e =
