@@ -20,7 +20,7 @@ use Rattle.sedna.specs.declared.Shape.the-variants.{Options}
 use Rattle.sedna.specs.declared.Side.{Side}
 use Rattle.sedna.specs.declared.Side.the-variants.{Client, Server}
 use Rattle.sedna.specs.Kinds.{sameShape}
-use Rattle.sedna.specs.Message.{Pair, Body, message}
+use Rattle.sedna.specs.Message.{Pair, Body, Message, message}
 use Rattle.sedna.specs.Table.{findOf, fitOf}
 use Rattle.sedna_read.specs.declared.OptionPlace.{OptionPlace}
 use Rattle.sedna_read.specs.declared.OptionPlace.the-variants as place
@@ -28,13 +28,14 @@ use Rattle.sedna_read.specs.declared.Reading.the-variants as reads
 use Rattle.sedna_read.specs.Meaning.{partOf, optionIn}
 use Rattle.sedna_read.specs.Places.{placesOf, located, optionAt}
 use Rattle.sedna_read.specs.Reading.{Answer, reading}
+use Rattle.sedna_write.specs.declared.Written.{Written}
 use Rattle.sedna_write.specs.declared.Written.the-variants as wrote
-use Rattle.sedna_write.specs.Writing.{judgedAs, judgement}
+use Rattle.sedna_write.specs.Writing.{judgedAs, judgement, left}
 use Rattle.sedna_c.specs.Codes.{writtenCode, sideReading, readCode, fieldsLeft, optionCode, optionLeft}
 use Rattle.sedna_exact.proofs.Due.{lacking}
 use Rattle.sedna_exact.proofs.Options.{option-exact}
 use Rattle.sedna_exact.proofs.Table.{listed-find}
-use Rattle.demands.specs.Answered.{answered}
+use Rattle.demands.specs.Answered.{Answered, answered}
 use Rattle.demands.specs.Header.{_at_, slice, SideOf, client, server, START-1, LENGTH-1, COUNT}
 use Rattle.demands.specs.SednaCalls.{ReadRight, OptionRight, OptionCalled, writtenAs, ListsRefused, SednaCalls}
 use Rattle.demands.proofs.Tells.{counted, refused, read-count, tells, behind, one-message}
@@ -131,17 +132,24 @@ pub write : (instruction : ℕ) (shape : Shape) (ok : Bool) (n room : ℕ) → a
 unfolding judgement
 write instruction shape ok n room = judged (fitOf (findOf instruction) shape) ok n room
 
-lists-refused : (instruction n room : ℕ) → ListsRefused instruction (answered (writtenCode (judgement instruction Options false n room)))
+lists-refused : (instruction n : ℕ) (out : List ℕ) (m : Message)
+    → ListsRefused instruction out (answered (writtenCode (judgement instruction Options false n (length out)))) (left out m (judgement instruction Options false n (length out)))
 unfolding judgement
-lists-refused instruction n room = by (findOf instruction) refl
+lists-refused instruction n out m = by (findOf instruction) refl
   where
-    by : (x : Found) → findOf instruction ≡ x → ListsRefused instruction (answered (writtenCode (judgedAs (fitOf x Options) false n room)))
+    Refused : Written → Type 0
+    Refused w = ListsRefused instruction out (answered (writtenCode w)) (left out m w)
+
+    by : (x : Found) → findOf instruction ≡ x → Refused (judgedAs (fitOf x Options) false n (length out))
     by Unknown e = rw (refused UnknownInstruction) (ListsRefused.unknown (lacking instruction e))
     by (Known sender own) e = shaped (sameShape own Options)
       where
-        shaped : (t : Bool) → ListsRefused instruction (answered (writtenCode (judgedAs (if t fit.Same fit.Other) false n room)))
-        shaped true = rw (refused ValueNotAllowed) (ListsRefused.value (instruction, sender, own) (listed-find instruction sender own e) refl)
-        shaped false = rw (refused ValueNotAllowed) (ListsRefused.value (instruction, sender, own) (listed-find instruction sender own e) refl)
+        value : ListsRefused instruction out (Answered.refusal 8) out
+        value = ListsRefused.value (instruction, sender, own) (listed-find instruction sender own e) refl
+
+        shaped : (t : Bool) → Refused (judgedAs (if t fit.Same fit.Other) false n (length out))
+        shaped true = rw (refused ValueNotAllowed) value
+        shaped false = rw (refused ValueNotAllowed) value
 
 pub sedna-calls : SednaCalls
 sedna-calls = record {
@@ -150,5 +158,5 @@ sedna-calls = record {
   option = option;
   options = options;
   write = write;
-  lists = λ instruction ids lengths values n room e. rw e (lists-refused instruction n room);
+  lists = λ instruction ids lengths values n out m e. rw e (lists-refused instruction n out m);
 }

@@ -21,7 +21,7 @@ use Rattle.sedna_read.specs.Reading.{Answer, reading}
 use Rattle.sedna_write.specs.declared.Written.{Written}
 use Rattle.sedna_write.specs.declared.Written.the-variants as wrote
 use Rattle.sedna_write.specs.Pairs.{given}
-use Rattle.sedna_write.specs.Writing.{judgement}
+use Rattle.sedna_write.specs.Writing.{judgement, left}
 use Rattle.sedna_c.specs.Codes.{writtenCode, sideReading, readCode, fieldsLeft, optionCode, optionLeft}
 use Rattle.demands.specs.Answered.{Answered, answered}
 use Rattle.demands.specs.Header.{_at_, slice, SideOf, START-1, LENGTH-1, COUNT, FIELDS, OPTION-FIELDS, pairTold, Tells}
@@ -60,10 +60,10 @@ abbrev pub writtenAs : Written → Answered
 writtenAs (wrote.Bytes n) = Answered.count n
 writtenAs (wrote.Refused r) = Answered.refusal (numberOf r)
 
--- "Lists that do not belong together … are a value that is not allowed: 8"; an instruction that the table lacks goes ahead
-pub data ListsRefused (instruction : ℕ) : Answered → Type 0 where
-  unknown : ((e : Entry) → InTable e → ¬ (e .0 ≡ instruction)) → ListsRefused instruction (Answered.refusal 2)
-  value : (e : Entry) → InTable e → e .0 ≡ instruction → ListsRefused instruction (Answered.refusal 8)
+-- "Lists that do not belong together … are a value that is not allowed: 8"; an instruction that the table lacks goes ahead; the output stays
+pub data ListsRefused (instruction : ℕ) (out : List ℕ) : Answered → List ℕ → Type 0 where
+  unknown : ((e : Entry) → InTable e → ¬ (e .0 ≡ instruction)) → ListsRefused instruction out (Answered.refusal 2) out
+  value : (e : Entry) → InTable e → e .0 ≡ instruction → ListsRefused instruction out (Answered.refusal 8) out
 
 pub record SednaCalls : Type 0 where
   -- ten numbers mean one message
@@ -84,5 +84,6 @@ pub record SednaCalls : Type 0 where
   pub write : (instruction : ℕ) (shape : Shape) (ok : Bool) (n room : ℕ)
       → answered (writtenCode (judgement instruction shape ok n room)) ≡ writtenAs (judgement instruction shape ok n room)
   -- `kdr_write_options`, where the three lists do not belong together
-  pub lists : (instruction : ℕ) (ids lengths values : List ℕ) (n room : ℕ) → given ids lengths values ≡ false
-      → ListsRefused instruction (answered (writtenCode (judgement instruction Options (given ids lengths values) n room)))
+  pub lists : (instruction : ℕ) (ids lengths values : List ℕ) (n : ℕ) (out : List ℕ) (m : Message) → given ids lengths values ≡ false
+      → ListsRefused instruction out (answered (writtenCode (judgement instruction Options (given ids lengths values) n (length out))))
+      (left out m (judgement instruction Options (given ids lengths values) n (length out)))
