@@ -1,4 +1,5 @@
 -- What a refusal leaves.
+use mathlib.Core.Bool.{true}
 use mathlib.Core.List.{List}
 use mathlib.Core.Logic.{_⊎_}
 use mathlib.Core.Path.{_≡_}
@@ -6,7 +7,11 @@ use Prim.Native.Nat.{ℕ}
 use lib.ListN.{length}
 use Rattle.sedna.specs.Message.{Message}
 use Rattle.assembly.specs.declared.Assembly.{Assembly}
-use Rattle.assembly.specs.Joining.{marked, joined, stored}
+use Rattle.assembly.specs.Joining.{joined, stored}
+
+-- the record with the mark, and nothing else changed
+abbrev pub spoilt : Assembly → Assembly
+spoilt a = record { what = a .what; begun = a .begun; held = a .held; overflowed = true; label = a .label }
 
 -- the call that joined m to a, with a buffer d, was refused with n
 pub record RefusalLeaves (a : Assembly) (d : List ℕ) (m : Message) (n : ℕ) : Type 0 where
@@ -15,4 +20,4 @@ pub record RefusalLeaves (a : Assembly) (d : List ℕ) (m : Message) (n : ℕ) :
   -- "A refusal returns its number alone ...; buffers and session record stay unchanged."
   pub buffer : stored a d m ≡ d
   -- "Only a gathering that met 12 is marked spoilt."
-  pub assembly : (joined a (length d) m .assembly ≡ a) ⊎ (n ≡ 12) × (joined a (length d) m .assembly ≡ marked a)
+  pub assembly : (joined a (length d) m .assembly ≡ a) ⊎ (n ≡ 12) × (joined a (length d) m .assembly ≡ spoilt a)

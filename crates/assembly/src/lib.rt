@@ -307,8 +307,8 @@ fn bytes_handed(answer: Answer) -> usize
 }
 
 // What an answer hands over: the front part of the buffer, where it stands, with no copy; shared, so
-// that nothing is changed. All of the buffer where it is shorter, as no buffer is that the answer was
-// given for.
+// that nothing is changed. Where the buffer is shorter than that, which the one that the answer was
+// given for never is, all of it.
 pub fn handed<'a>(buffer: &'a [u8], answer: Answer) -> &'a [u8]
     ensures { λ r. ⌜ (now r ≡ take (bytesHanded (reply answer)) (now (buffer .entry))) × (r .ptr ≡ buffer .entry .ptr) ⌝ }
 {

@@ -7,7 +7,7 @@ use Rattle.wire.specs.Fields.{Got}
 use Rattle.sedna_read.specs.Places.{located}
 use Rattle.sedna_exact.proofs.Bounds.{bounds}
 use Rattle.sedna_exact.proofs.Exact.{exact, one-message, one-encoding, behind}
-use Rattle.sedna_exact.proofs.Lists.{options-written, options-given}
+use Rattle.sedna_exact.proofs.Lists.{options-written, options-are, options-given}
 use Rattle.sedna_exact.proofs.Meaning.{meaning-located}
 use Rattle.sedna_exact.proofs.Options.{option-exact}
 use Rattle.sedna_exact.proofs.Table.{once}
@@ -42,6 +42,7 @@ sedna =
       options-counted = λ side s i n ps e. ap located e;
       writing-exact = written-exact;
       options-written = options-written;
+      options-are = options-are;
       options-given = options-given;
       read-written = read-written;
       write-read = write-read;

@@ -27,6 +27,8 @@ use Rattle.fragments.specs.Cut.{cutStatement, cutItem, cutTypedItem}
 use Rattle.fragments.specs.declared.Parts.the-variants as parts
 use Rattle.fragments.specs.Part.{pieceCount, statementParts, itemPartsFrom, urlParts, writtenOf, partWritten}
 use Rattle.fragments.proofs.Counts.{statement-counted, item-counted, typed-item-counted}
+use Rattle.fragments_exact.specs.ThroughBytes.{Uncut, cut, permitted, encodable, Slices, partAnswer}
+use Rattle.fragments_exact.proofs.PartDue.{part-due}
 use Rattle.assembly.specs.declared.Answer.{Answer as Joins}
 use Rattle.assembly.specs.declared.Answer.the-variants as answer
 use Rattle.assembly.specs.declared.Assembly.{Assembly}
@@ -44,7 +46,7 @@ use Rattle.parts_c.proofs.Kept.{kept-same}
 use Rattle.demands.specs.Answered.{Answered, answered}
 use Rattle.demands.specs.Gatherings.{Gathering, Means, TOLD-LENGTH, TellsReply}
 use Rattle.demands.specs.Header.{_at_, SideOf}
-use Rattle.demands.specs.PartsCalls.{SIZES, OpenRight, Join, JoinLeft, joinCalled, untouched, Lent, Offers, replied, grownTo, JoinRight, PartsCalls}
+use Rattle.demands.specs.PartsCalls.{SIZES, OpenRight, Join, JoinLeft, joinCalled, untouched, Lent, Offers, replied, grownTo, JoinRight, PartCalled, PartsCalls}
 use Rattle.demands.specs.SednaCalls.{writtenAs}
 use Rattle.demands.proofs.Gatherings.{gathering-of, means-put, means-bytes, Judged, kept-judged, joined-bytes, one-assembly, one-reply}
 use Rattle.demands.proofs.SednaCalls.{Sides, sides, is-client, is-server, side-read, side-nobody, write}
@@ -99,6 +101,9 @@ write-part true true cut k room = by (getElem? cut k)
     by : (o : Option Message) → answered (writtenCode (writtenOf room o)) ≡ writtenAs (writtenOf room o)
     by none = refused NoSuchPart
     by (some m) = write (m .instruction) (shapeOf (m .body)) (allowed (m .body)) (length (bodyBytes (m .body))) room
+
+called : (u : Uncut) → Slices u → (k : ℕ) (out : List ℕ) → PartCalled u k out (partAnswer u k (length out))
+called u h k out = record { answer = write-part (permitted u) (encodable u) (cut u) k (length out); due = part-due u h k out }
 
 opens : (what : ℕ) (d : List ℕ) → OpenRight what d (answered (openCode what d)) (openLeft what d)
 opens what d = by (ltb (length d) 7) refl (eqb what 0) refl (ltb 3 what) refl
@@ -230,7 +235,10 @@ parts-calls = record {
   item-parts = item-parts;
   typed-item-parts = typed-item-parts;
   typed-item-url-parts = typed-item-url-parts;
-  write-part = write-part;
+  write-statement-part = λ format text h k out. called (Uncut.statement format text) h k out;
+  write-item-part = λ text h e k out. called (Uncut.item text e) h k out;
+  write-typed-item-part = λ class kind text h e k out. called (Uncut.typed-item class kind Url.absent text e) h k out;
+  write-typed-item-url-part = λ class kind url text h e k out. called (Uncut.typed-item class kind (Url.present url) text e) h k out;
   «open» = opens;
   join = join;
 }

@@ -8,7 +8,7 @@ use mathlib.Core.List.{List, [], _∷_, _++_, flatten}
 use mathlib.Core.Logic.{_⊎_}
 use mathlib.Core.Path.{_≡_}
 use Prim.Native.Nat.{ℕ, zero, suc, _+_, _-_, _≤_, _<_}
-use lib.Dec.{ltb, eqb}
+use lib.Dec.{eqb}
 use lib.ListN.{length, take, drop, getD}
 use Rattle.wire.specs.Bytes.{if, over, placed}
 use Rattle.wire.specs.Fields.{Got}
@@ -145,6 +145,10 @@ pub record RequestNumbers : Type 0 where
 
 abbrev pub requestNumbers : List ℕ → RequestNumbers
 requestNumbers t = record { kind = getD t 0 0; length-1 = getD t 1 0; length-2 = getD t 2 0; length-3 = getD t 3 0; length-4 = getD t 4 0 }
+
+-- KDR_BASEX_COMMAND
+abbrev pub COMMAND : ℕ
+COMMAND = 0x20
 
 -- the texts of a request cut out of the output by the numbers told: one behind the other in front of it
 abbrev pub RequestTexts : RequestNumbers → List ℕ → List (List ℕ) → Type 0
@@ -297,6 +301,9 @@ pub record BaseXCalls : Type 0 where
   pub read-request : (s : List ℕ) → Lendable s → (out told : List ℕ)
       → Right (Unread (requests.reading s) (λ q. NoPlace out (length (flatten (textsOf q))) told 5)) (RequestRead s out told)
       out told (readRequestCalled s out told)
+  -- "its first byte, and KDR_BASEX_COMMAND for each COMMAND", and the texts in the request's order
+  pub command-told : (text : List ℕ) → (kindOf (Request.command text) ≡ COMMAND) × (textsOf (Request.command text) ≡ text ∷ [])
+  pub coded-told : (first : ℕ) (texts : List (List ℕ)) → (kindOf (Request.coded first texts) ≡ first) × (textsOf (Request.coded first texts) ≡ texts)
   pub write-request : (out : List ℕ) → Lendable out → (kind : ℕ) (a b c d : List ℕ)
       → Right (Unwritten (length out) kind (a ∷ b ∷ c ∷ d ∷ [])) (Written (RequestBytes kind (a ∷ b ∷ c ∷ d ∷ [])) out 0)
       out [] (writeRequestCalled out kind (a ∷ b ∷ c ∷ d ∷ []))

@@ -10,25 +10,21 @@
 use mathlib.Core.Bool.{Bool, true, false}
 use mathlib.Core.List.{List, [], _∷_, _++_}
 use mathlib.Core.Logic.{_↔_, _⊎_}
-use mathlib.Core.Option.{some}
 use mathlib.Core.Path.{_≡_}
 use Prim.Native.Nat.{ℕ, _≤_}
-use lib.Dec.{ltb}
-use lib.ListN.{length, drop, getElem?}
-use Rattle.wire.specs.Bytes.{IsBytes, if, placed}
-use Rattle.wire.specs.Every.{Every}
+use lib.ListN.{length, drop}
+use Rattle.wire.specs.Bytes.{IsBytes, placed}
 use Rattle.wire.specs.declared.Refusal.{Refusal}
-use Rattle.wire.specs.declared.Refusal.the-variants.{MoreBytes, ValueNotAllowed, NoRoom, NoEncoding, NoSuchPart}
+use Rattle.wire.specs.declared.Refusal.the-variants.{MoreBytes}
 use Rattle.wire.specs.Refusals.{numberOf}
 use Rattle.sedna.specs.declared.Side.{Side}
 use Rattle.sedna.specs.declared.Shape.the-variants.{Options}
-use Rattle.sedna.specs.Encode.{pairsBytes, bodyBytes, encode}
+use Rattle.sedna.specs.Encode.{pairsBytes, bodyBytes}
 use Rattle.sedna.specs.Message.{Body, Message, message}
-use Rattle.sedna.specs.Published.{Published}
 use Rattle.sedna_read.specs.declared.Reading.the-variants as read
 use Rattle.sedna_read.specs.Reading.{Answer, reading}
 use Rattle.sedna_write.specs.declared.Written.{Written}
-use Rattle.sedna_write.specs.declared.Written.the-variants.{Bytes, Refused}
+use Rattle.sedna_write.specs.declared.Written.the-variants.{Refused}
 use Rattle.sedna_write.specs.Pairs.{sum, given, pairsOf}
 use Rattle.sedna_write.specs.Writing.{judgement, written, left}
 use Rattle.sedna_exact.specs.Due.{Due}
@@ -37,7 +33,8 @@ use Rattle.sedna_exact.specs.Unwritten.{Unwritten, UnwrittenLists}
 use Rattle.session.specs.declared.Session.{Session}
 use Rattle.session.specs.Step.{stepped}
 use Rattle.session_cell.specs.Lent.{lentAnswer, lentLeft}
-use Rattle.fragments.specs.Part.{partWritten, partLeft}
+use Rattle.fragments_exact.specs.PartDue.{PartRight}
+use Rattle.fragments_exact.specs.ThroughBytes.{Uncut, Slices, partAnswer, partBytes}
 use Rattle.assembly.specs.declared.Assembly.{Assembly}
 use Rattle.assembly.specs.declared.Open.{Open}
 use Rattle.assembly.specs.Answers.{Reply, reply}
@@ -90,15 +87,8 @@ pub record Sedna : Type 0 where
 
 -- cutting and joining
 pub record Parts : Type 0 where
-  -- "When writing or cutting: 2, 8, 11, 14, 10": 8 and 11 for the whole, whatever the part; 14 beyond the last; else the part is written, or 10
-  pub part-value : (encodable : Bool) (cut : List Message) (k room : ℕ) → partWritten false encodable cut k room ≡ Refused ValueNotAllowed
-  pub part-encoding : (cut : List Message) (k room : ℕ) → partWritten true false cut k room ≡ Refused NoEncoding
-  pub part-beyond : (cut : List Message) (k room : ℕ) → length cut ≤ k → partWritten true true cut k room ≡ Refused NoSuchPart
-  pub part-there : (side : Side) (cut : List Message) → Every (Published side) cut → (k room : ℕ) (m : Message) → getElem? cut k ≡ some m
-      → partWritten true true cut k room ≡ if (ltb room (length (encode m))) (Refused NoRoom) (Bytes (length (encode m)))
-  -- a refused part of a cut leaves every byte of the lent output
-  pub part-leaves : (out : List ℕ) (allowed encodable : Bool) (cut : List Message) (k : ℕ) (r : Refusal) → partWritten allowed encodable cut k (length out) ≡ Refused r
-      → partLeft out (getElem? cut k) (partWritten allowed encodable cut k (length out)) ≡ out
+  -- "When writing or cutting: 2, 8, 11, 14, 10": what writing part k of any cut answers, and what it leaves in the lent output
+  pub part-due : (u : Uncut) → Slices u → (k : ℕ) (out : List ℕ) → PartRight u k out (partAnswer u k (length out)) (partBytes u k out)
   -- "When joining: 8, 9, 12": what each of any list of messages is answered after an opening, by the cuttings alone
   pub offered : (what : Open) (d : List ℕ) (offers : List Message) → Offered what d offers
   -- a refused part or end leaves the buffer, and the record but for the mark

@@ -2,7 +2,7 @@
 --
 -- Of each protocol, and of cutting and joining, a record says so; `Demand2`, at the end, is all three. Published formats (`Published`, `encode`, `string`) and cuts know no reader and no joiner.
 use mathlib.Core.Bool.{true}
-use mathlib.Core.List.{List, [], _∷_, _++_, flatten}
+use mathlib.Core.List.{List, [], _∷_, _++_, map, flatten}
 use mathlib.Core.Logic.{_↔_}
 use mathlib.Core.Option.{some}
 use mathlib.Core.Path.{_≡_}
@@ -90,6 +90,11 @@ pub record Sedna : Type 0 where
   -- options, which the writer takes as three lists: lists that belong together are written as the message with those options ..
   pub options-written : (room i : ℕ) (ids lengths values : List ℕ) → given ids lengths values ≡ true
       → judgement i Options (given ids lengths values) (length (pairsBytes (pairsOf ids lengths values))) room ≡ written room (message i (Body.options (pairsOf ids lengths values)))
+  -- .. option k having the k-th id and the next bytes of the values, as many as the k-th length ..
+  pub options-are : (ids lengths values : List ℕ) → given ids lengths values ≡ true
+      → (map (λ (p : Pair). p .id) (pairsOf ids lengths values) ≡ ids)
+      × (map (λ (p : Pair). length (p .value)) (pairsOf ids lengths values) ≡ lengths)
+      × (flatten (map (λ (p : Pair). p .value) (pairsOf ids lengths values)) ≡ values)
   -- .. and every message's options can be given so
   pub options-given : (ps : List Pair) → (ids : List ℕ) × (lengths : List ℕ) × (values : List ℕ) × (given ids lengths values ≡ true) × (pairsOf ids lengths values ≡ ps)
   -- what was written reads as the same message

@@ -78,6 +78,6 @@ pub record Demand3Exports : Type 0 where
   -- which answers 0, and leaves the bytes behind those two
   pub fresh : (d : List ℕ) → SESSION-BYTES ≤ length d
       → (answered (freshCode d) ≡ Answered.count 0) × (drop SESSION-BYTES (freshLeft d) ≡ drop SESSION-BYTES d)
-  -- with fewer, both refuse with 10, and leave everything as it was; and `kdr_closed` answers 0
+  -- with fewer, `kdr_fresh` and `kdr_step` refuse with 10, and leave everything as it was; and `kdr_closed` answers 0
   pub no-record : (d : List ℕ) → length d < SESSION-BYTES → (c : Call)
       → (answered (freshCode d) ≡ Answered.refusal 10) × (freshLeft d ≡ d) × (called d c ≡ unchanged 10 d c) × (closedCode d ≡ 0)

@@ -1,6 +1,5 @@
--- What the calls of cutting and joining answer and leave, turned back into what it means by the header's names. The right sides of their contracts stand
--- behind `answered`, and where memory is left.
-use mathlib.Core.Bool.{Bool}
+-- What the calls of cutting and joining answer and leave, turned back into what it means by the header's names. What `answered` is applied to, and what
+-- is named as left, are the right sides of the contracts.
 use mathlib.Core.List.{List}
 use mathlib.Core.Logic.{_⊎_}
 use mathlib.Core.Path.{_≡_}
@@ -11,18 +10,24 @@ use Rattle.wire.specs.Bytes.{IsBytes, if}
 use Rattle.wire.specs.declared.Refusal.{Refusal}
 use Rattle.wire.specs.Refusals.{numberOf}
 use Rattle.sedna.specs.declared.Side.{Side}
-use Rattle.sedna.specs.Message.{Url, Message}
+use Rattle.sedna.specs.Message.{Url, Body, Message}
 use Rattle.sedna_read.specs.Reading.{Answer, reading}
+use Rattle.sedna_write.specs.declared.Written.{Written}
+use Rattle.sedna_exact.specs.Pieces.{Bounded}
 use Rattle.fragments.specs.Cut.{cutStatement, cutItem, cutTypedItem}
-use Rattle.fragments.specs.Part.{statementParts, itemPartsFrom, urlParts, partWritten}
+use Rattle.fragments.specs.Part.{statementParts, itemPartsFrom, urlParts}
+use Rattle.fragments_exact.specs.PartDue.{PartRight}
+use Rattle.fragments_exact.specs.ThroughBytes.{Uncut, cut}
 use Rattle.assembly.specs.declared.Assembly.{Assembly}
 use Rattle.assembly.specs.declared.Open.{Open}
 use Rattle.assembly.specs.declared.Open.the-variants.{Nothing}
 use Rattle.assembly.specs.Answers.{Reply, reply}
-use Rattle.assembly.specs.Joining.{opened, marked, joined, stored}
+use Rattle.assembly.specs.Cuttings.{Ending}
+use Rattle.assembly.specs.Joining.{opened, joined, stored}
+use Rattle.assembly.specs.Refusals.{spoilt}
 use Rattle.sedna_c.specs.Codes.{writtenCode}
 use Rattle.parts_c.specs.Joining.{openCode, openLeft, outcome}
-use Rattle.parts_c.specs.Parts.{partsCode}
+use Rattle.parts_c.specs.Parts.{partsCode, statementPart, itemPart, typedItemPart, typedItemUrlPart, cutLeft}
 use Rattle.demands.specs.Answered.{Answered, answered}
 use Rattle.demands.specs.Gatherings.{Gathering, ASSEMBLY-FIELDS, Means, TOLD-LENGTH, TOLD-FIELDS, TellsReply}
 use Rattle.demands.specs.Header.{_at_, SideOf}
@@ -102,7 +107,7 @@ pub data JoinRight (c : Join) : JoinLeft → Type 0 where
       → JoinRight c (untouched (numberOf r) c)
   -- then joining's: all stays, but for the mark of an overfull assembly
   refused : (a : Assembly) (m : Message) (n k : ℕ) (after : List ℕ) → Offers c a m n → replied c a m ≡ Reply.number k
-      → (after ≡ c .assembly) ⊎ ((k ≡ 12) × Means after (marked a))
+      → (after ≡ c .assembly) ⊎ ((k ≡ 12) × Means after (spoilt a))
       → Means after (grownTo c a m) → drop ASSEMBLY-FIELDS after ≡ drop ASSEMBLY-FIELDS (c .assembly)
       → JoinRight c (record { answer = Answered.refusal k; assembly = after; buffer = c .buffer; told = c .told })
   -- the bytes of the message; the four numbers mean the reply, and what it hands over lies in the buffer; the seven mean the assembly then; the text goes to
@@ -111,6 +116,11 @@ pub data JoinRight (c : Join) : JoinLeft → Type 0 where
       → TellsReply t (replied c a m) → t at TOLD-LENGTH ≤ length (c .buffer) → drop TOLD-FIELDS t ≡ drop TOLD-FIELDS (c .told)
       → Means after (grownTo c a m) → drop ASSEMBLY-FIELDS after ≡ drop ASSEMBLY-FIELDS (c .assembly)
       → JoinRight c (record { answer = Answered.count n; assembly = after; buffer = stored a (c .buffer) m; told = t })
+
+-- a call that writes part k came out right, where w is what the library answers: the count or the number of its answer, and what is due
+pub record PartCalled (u : Uncut) (k : ℕ) (out : List ℕ) (w : Written) : Type 0 where
+  pub answer : answered (writtenCode w) ≡ writtenAs w
+  pub due : PartRight u k out w (cutLeft out (cut u) k w)
 
 pub record PartsCalls : Type 0 where
   -- seven numbers mean one assembly, and four one reply
@@ -126,9 +136,15 @@ pub record PartsCalls : Type 0 where
   pub typed-item-url-parts : (class kind : ℕ) (url text : List ℕ) → length text < SIZES
       → answered (partsCode (urlParts (length text) (length url)))
       ≡ if (leb (length url) 10227) (Answered.count (length (cutTypedItem class kind (Url.present url) text))) (Answered.refusal 11)
-  -- each call that writes a part; when it refuses, and what it leaves, `Demand1.parts` says
-  pub write-part : (allowed encodable : Bool) (cut : List Message) (k room : ℕ)
-      → answered (writtenCode (partWritten allowed encodable cut k room)) ≡ writtenAs (partWritten allowed encodable cut k room)
+  -- `kdr_write_statement_part`, and those of an item up to 3.0 and of 4.0, without a URL and with one; an item's end, whichever it is, is no part
+  pub write-statement-part : (format : ℕ) (text : List ℕ) → IsBytes text → (k : ℕ) (out : List ℕ)
+      → PartCalled (Uncut.statement format text) k out (statementPart format text k (length out))
+  pub write-item-part : (text : List ℕ) → IsBytes text → (e : Ending) (k : ℕ) (out : List ℕ)
+      → PartCalled (Uncut.item text e) k out (itemPart text k (length out))
+  pub write-typed-item-part : (class kind : ℕ) (text : List ℕ) → Bounded (Body.item class kind Url.absent text) → (e : Ending) (k : ℕ) (out : List ℕ)
+      → PartCalled (Uncut.typed-item class kind Url.absent text e) k out (typedItemPart class kind text k (length out))
+  pub write-typed-item-url-part : (class kind : ℕ) (url text : List ℕ) → Bounded (Body.item class kind (Url.present url) text) → (e : Ending) (k : ℕ)
+      (out : List ℕ) → PartCalled (Uncut.typed-item class kind (Url.present url) text e) k out (typedItemUrlPart class kind url text k (length out))
   -- `kdr_open`, for any number and any lent numbers
   pub «open» : (what : ℕ) (d : List ℕ) → OpenRight what d (answered (openCode what d)) (openLeft what d)
   -- `kdr_join`, for any arguments

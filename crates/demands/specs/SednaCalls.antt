@@ -1,5 +1,5 @@
--- What `kdr_read`, `kdr_option` and the calls that write a message answer and leave, turned back into what it means by the header's names. The right sides of
--- their contracts stand behind `answered`, and where memory is left; those of the session's calls are in Exports.antt.
+-- What `kdr_read`, `kdr_option` and the calls that write a message answer and leave, turned back into what it means by the header's names. What `answered`
+-- is applied to, and what is named as left, are the right sides of the contracts; those of the session's calls are in Exports.antt.
 use mathlib.Core.Bool.{Bool, false}
 use mathlib.Core.List.{List}
 use mathlib.Core.Option.{Option, none, some}

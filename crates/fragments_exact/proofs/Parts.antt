@@ -35,7 +35,7 @@ none-there (x ∷ l) zero h = absurd (omega arith)
 none-there (x ∷ l) (suc k) h = none-there l k (omega arith)
 
 -- what holds of every one holds of number k
-at : {A : Type 0} (P : A → Type 0) (l : List A) (k : ℕ) (x : A) → Every P l → getElem? l k ≡ some x → P x
+pub at : {A : Type 0} (P : A → Type 0) (l : List A) (k : ℕ) (x : A) → Every P l → getElem? l k ≡ some x → P x
 at P [] zero x h e = apart (cc)
 at P [] (suc k) x h e = apart (cc)
 at P (y ∷ l) zero x h e = let z : y ≡ x = cc in subst P z (h .0)
@@ -46,7 +46,7 @@ pub part-beyond : (cut : List Message) (k room : ℕ) → length cut ≤ k → p
 part-beyond cut k room h = ap (writtenOf room) (none-there cut k h)
 
 -- a published message is written, or there is no room
-published-written : (side : Side) (m : Message) (room : ℕ) → Published side m → written room m ≡ if (ltb room (length (encode m))) (Refused NoRoom) (Bytes (length (encode m)))
+pub published-written : (side : Side) (m : Message) (room : ℕ) → Published side m → written room m ≡ if (ltb room (length (encode m))) (Refused NoRoom) (Bytes (length (encode m)))
 published-written side m room p = by (ltb room (length (encode m))) refl
   where
     by : (t : Bool) → ltb room (length (encode m)) ≡ t → written room m ≡ if t (Refused NoRoom) (Bytes (length (encode m)))

@@ -35,12 +35,12 @@ use Rattle.assembly.specs.declared.Assembly.{Assembly}
 use Rattle.assembly.specs.Answers.{Reply, reply}
 use Rattle.assembly.specs.Calls.{Run, after, run, shortReplies, shortText}
 use Rattle.assembly.specs.Cuttings as cuttings
-use Rattle.assembly.specs.Cuttings.{Ending, ending, before, last, messages, values, fronted, whole, calls, taken}
+use Rattle.assembly.specs.Cuttings.{Ending, ending, before, last, values, fronted, whole, calls, taken}
 use Rattle.assembly.specs.Joining.{opened, closed, joined, stored}
 use Rattle.assembly.proofs.Cuttings.{texts-added}
 use Rattle.assembly.proofs.Steps.{added}
 use Rattle.fragments_exact.specs.Rejoined.{UrlFits, Rejoined}
-use Rattle.fragments_exact.specs.ThroughBytes.{Uncut, text, told, sender, opens, cut, count, end, permitted, encodable, Sendable, Roomy, partBytes, partsBytes, messageBytes, sent, joinedRead, joinedFrom, rejoined, texts, Returned}
+use Rattle.fragments_exact.specs.ThroughBytes.{Uncut, text, told, sender, opens, cut, count, end, permitted, encodable, Sendable, Roomy, partsBytes, messageBytes, sent, joinedRead, joinedFrom, rejoined, texts, Returned}
 use Rattle.fragments_exact.proofs.Cuts.{every-append, statement-cut-published, item-cut-published, typed-item-cut-published}
 use Rattle.fragments_exact.proofs.Joins.{statement-rejoined, item-rejoined, typed-item-rejoined}
 use Rattle.fragments_exact.proofs.Parts.{part-there, part-read}
@@ -206,7 +206,7 @@ laid (Uncut.item t e) h = record {
   values = refl;
   encoded = refl;
   counted = item-counted t;
-  parts = item-cut-published t h;
+  parts = item-cut-published t (h .1);
   ends = (ending-published e, tt);
   room = λ outs room. (end-room (Uncut.item t e) e refl (item-counted t) outs room, tt);
   again = item-rejoined t e;

@@ -1,3 +1,4 @@
 pub mod Filled
+pub mod PartDue
 pub mod Rejoined
 pub mod ThroughBytes

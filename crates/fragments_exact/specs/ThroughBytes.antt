@@ -17,6 +17,7 @@ use Rattle.sedna.specs.Message.{Url, Body, Message}
 use Rattle.sedna_read.specs.Meaning.{meaning}
 use Rattle.sedna_read.specs.Places.{located}
 use Rattle.sedna_read.specs.Reading.{Answer, reading}
+use Rattle.sedna_write.specs.declared.Written.{Written}
 use Rattle.sedna_write.specs.Writing.{written, left}
 use Rattle.sedna_exact.specs.Pieces.{Bounded}
 use Rattle.fragments.specs.Cut.{partRoom, startRoom, cutStatement, cutItem, cutTypedItem}
@@ -90,19 +91,38 @@ encodable (Uncut.item t e) = true
 encodable (Uncut.typed-item class kind Url.absent t e) = true
 encodable (Uncut.typed-item class kind (Url.present url) t e) = leb (length url) 10227
 
--- neither is refused, and the texts are of bytes, as those of slices are
+-- its values are allowed
+abbrev pub Allowed : Uncut → Type 0
+Allowed (Uncut.statement format t) = formatAllowed format ≡ true
+Allowed (Uncut.item t e) = Unit {0}
+Allowed (Uncut.typed-item class kind url t e) = allowed (Body.item class kind url t) ≡ true
+
+-- "(u above 10,227: 11)"
+abbrev pub Fits : Uncut → Type 0
+Fits (Uncut.statement format t) = Unit {0}
+Fits (Uncut.item t e) = Unit {0}
+Fits (Uncut.typed-item class kind url t e) = UrlFits url
+
+-- its texts are of bytes, as those of slices are, and class and type are bytes: no condition on a caller
+abbrev pub Slices : Uncut → Type 0
+Slices (Uncut.statement format t) = IsBytes t
+Slices (Uncut.item t e) = IsBytes t
+Slices (Uncut.typed-item class kind url t e) = Bounded (Body.item class kind url t)
+
+-- it is cut, and not refused
 abbrev pub Sendable : Uncut → Type 0
-Sendable (Uncut.statement format t) = (formatAllowed format ≡ true) × IsBytes t
-Sendable (Uncut.item t e) = IsBytes t
-Sendable (Uncut.typed-item class kind url t e) = (allowed (Body.item class kind url t) ≡ true) × Bounded (Body.item class kind url t) × UrlFits url
+Sendable u = Allowed u × Slices u × Fits u
 
 -- each message has room in the output that it is written into
 abbrev pub Roomy : Uncut → (ℕ → List ℕ) → Type 0
 Roomy u outs = (k : ℕ) (m : Message) → getElem? (cut u ++ end u) k ≡ some m → length (encode m) ≤ length (outs k)
 
--- an output behind the writing of part k
+-- what writing part k answers, into so many bytes, and an output behind it: the right sides of the contracts
+abbrev pub partAnswer : Uncut → ℕ → ℕ → Written
+partAnswer u k room = partWritten (permitted u) (encodable u) (cut u) k room
+
 abbrev pub partBytes : Uncut → ℕ → List ℕ → List ℕ
-partBytes u k out = partLeft out (getElem? (cut u) k) (partWritten (permitted u) (encodable u) (cut u) k (length out))
+partBytes u k out = partLeft out (getElem? (cut u) k) (partAnswer u k (length out))
 
 -- so many parts from number k on, each in an output of its own
 abbrev pub partsBytes : Uncut → (ℕ → List ℕ) → ℕ → ℕ → List (List ℕ)

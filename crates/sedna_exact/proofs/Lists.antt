@@ -1,13 +1,13 @@
 -- Options given to the writer as three lists: they are a message's options, and every message's options can be given so; or the lists do not belong together.
 use mathlib.Core.Path.{_≡_, refl, sym, _∙_, ap, subst}
-use mathlib.Core.List.{List, [], _∷_, _++_, map}
+use mathlib.Core.List.{List, [], _∷_, _++_, map, flatten}
 use mathlib.Core.Bool.{Bool, true, false}
 use mathlib.Core.Logic.{_↔_}
 use Prim.Native.Nat.{ℕ, _+_}
 use native.Mathlib.Omega.{arith}
 use lib.Dec.{eqb}
-use lib.ListN.{length, length-append, length-map}
-use lib.Seq.{take-append-seam, drop-append-seam}
+use lib.ListN.{length, take, drop, length-append, length-map, length-drop, take-append-drop}
+use lib.Seq.{take-append-seam, drop-append-seam, length-take-le}
 use borrow.Author.Tests.{eq-eqb, eqb-true}
 use Rattle.wire.specs.Bytes.{if}
 use Rattle.wire.specs.declared.Refusal.{Refusal}
@@ -75,6 +75,32 @@ lists-together ids lengths values =
       λ e. (eqb-true (length ids) (length lengths) (split .0 e .0), eqb-true (sum lengths) (length values) (split .0 e .1)),
       λ p. split .1 (eq-eqb (length ids) (length lengths) (p .0), eq-eqb (sum lengths) (length values) (p .1)),
     )
+
+-- the options of lists that fit each other: the ids in order, values of those lengths, and these one behind the other
+parted : (ids lengths values : List ℕ) → length ids ≡ length lengths → sum lengths ≡ length values
+    → (map (λ (p : Pair). p .id) (pairsOf ids lengths values) ≡ ids)
+    × (map (λ (p : Pair). length (p .value)) (pairsOf ids lengths values) ≡ lengths)
+    × (flatten (map (λ (p : Pair). p .value) (pairsOf ids lengths values)) ≡ values)
+unfolding pairsOf sum flatten
+parted [] [] [] e s = (refl, refl, refl)
+parted [] [] (x ∷ values) e s = absurd (omega arith)
+parted [] (n ∷ lengths) values e s = absurd (omega arith)
+parted (id ∷ ids) [] values e s = absurd (omega arith)
+parted (id ∷ ids) (n ∷ lengths) values e s =
+    let behind : sum lengths ≡ length (drop n values) = omega (arith, length-drop n values) in
+    let again = parted ids lengths (drop n values) (omega arith) behind in
+    let long : length (take n values) ≡ n = length-take-le n values (omega arith) in (
+      ap (λ (l : List ℕ). id ∷ l) (again .0),
+      (λ i. long i ∷ again .1 i),
+      ap (λ (l : List ℕ). take n values ++ l) (again .2) ∙ take-append-drop n values,
+    )
+
+-- option k has the k-th id, and the next bytes of the values, as many as the k-th length
+pub options-are : (ids lengths values : List ℕ) → given ids lengths values ≡ true
+    → (map (λ (p : Pair). p .id) (pairsOf ids lengths values) ≡ ids)
+    × (map (λ (p : Pair). length (p .value)) (pairsOf ids lengths values) ≡ lengths)
+    × (flatten (map (λ (p : Pair). p .value) (pairsOf ids lengths values)) ≡ values)
+options-are ids lengths values e = let h = lists-together ids lengths values .0 e in parted ids lengths values (h .0) (h .1)
 
 -- a value that is not allowed: 8 whatever the body in the table, however long and whatever the room
 bad-value : (t : Bool) (n room : ℕ) → judgedAs (if t fit.Same fit.Other) false n room ≡ Refused ValueNotAllowed

@@ -12,7 +12,6 @@ use Rattle.wire.specs.Fields.{Got}
 use Rattle.wire.specs.declared.Refusal.{Refusal}
 use Rattle.wire.specs.declared.Refusal.the-variants.{NoRoom}
 use Rattle.wire.specs.Refusals.{numberOf, refusalCode}
-use Rattle.basex_string.specs.declared.StringAt.the-variants as place
 use Rattle.basex_exact.specs.Exactly as exact
 use Rattle.basex_c.specs.Codes.{Outcome, lent}
 use Rattle.demands.specs.Answered.{REFUSED, Answered, answered}

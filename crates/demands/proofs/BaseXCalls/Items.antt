@@ -11,8 +11,6 @@ use borrow.Author.Tests.{ltb-true, ltb-false, lt-ltb, le-ltb}
 use Rattle.wire.specs.Fields.{Got}
 use Rattle.wire.specs.declared.Refusal.{Refusal}
 use Rattle.wire.specs.declared.Refusal.the-variants.{MoreBytes, UnknownInstruction, ValueNotAllowed, NoRoom, BadEscape}
-use Rattle.basex_string.specs.declared.StringAt.the-variants as place
-use Rattle.basex_string.specs.Scan as strings
 use Rattle.basex.specs.declared.Found.{Found}
 use Rattle.basex.specs.declared.Found.the-variants.{Known, Unknown}
 use Rattle.basex.specs.declared.Reply.{Reply}

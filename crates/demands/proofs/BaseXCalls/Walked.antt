@@ -8,9 +8,7 @@ use lib.ListN.{length, take, drop, length-append, length-drop}
 use borrow.Author.Tests.{le-ltb, ne-eqb}
 use Rattle.wire.specs.Bytes.{over}
 use Rattle.wire.proofs.Over.{placed-fits}
-use Rattle.basex_string.specs.declared.StringAt.the-variants as place
 use Rattle.basex_string.specs.Answers.{left}
-use Rattle.basex_string.specs.Scan as strings
 use Rattle.basex.specs.declared.Found.{Found}
 use Rattle.basex.specs.declared.Found.the-variants.{Known, Unknown}
 use Rattle.basex.specs.Kinds.{findOf}
