@@ -20,6 +20,7 @@ use Rattle.sedna.specs.declared.Shape.the-variants.{Options}
 use Rattle.sedna.specs.declared.Side.{Side}
 use Rattle.sedna.specs.declared.Side.the-variants.{Client, Server}
 use Rattle.sedna.specs.Kinds.{sameShape}
+use Rattle.sedna.specs.Encode.{pairsBytes}
 use Rattle.sedna.specs.Message.{Pair, Body, Message, message}
 use Rattle.sedna.specs.Table.{findOf, fitOf}
 use Rattle.sedna_read.specs.declared.OptionPlace.{OptionPlace}
@@ -30,6 +31,7 @@ use Rattle.sedna_read.specs.Places.{placesOf, located, optionAt}
 use Rattle.sedna_read.specs.Reading.{Answer, reading}
 use Rattle.sedna_write.specs.declared.Written.{Written}
 use Rattle.sedna_write.specs.declared.Written.the-variants as wrote
+use Rattle.sedna_write.specs.Pairs.{pairsOf}
 use Rattle.sedna_write.specs.Writing.{judgedAs, judgement, left}
 use Rattle.sedna_c.specs.Codes.{writtenCode, sideReading, readCode, fieldsLeft, optionCode, optionLeft}
 use Rattle.sedna_exact.proofs.Due.{lacking}
@@ -158,5 +160,6 @@ sedna-calls = record {
   option = option;
   options = options;
   write = write;
-  lists = λ instruction ids lengths values n out m e. rw e (lists-refused instruction n out m);
+  lists = λ instruction ids lengths values out e.
+      rw e (lists-refused instruction (length (pairsBytes (pairsOf ids lengths values))) out (message instruction (Body.options (pairsOf ids lengths values))));
 }

@@ -2,7 +2,7 @@
 --
 -- That every input gets the answer of a definition is what the contracts say: `sedna_read::read` answers `located (reading side bytes)`. Each
 -- `sedna_write::write_..` whose arguments are a message answers `written` of it and leaves `left`; `write_options`, whose lists may not belong
--- together, answers `judgement` and leaves `left`. `session::step` returns `stepped`, `session_cell::step_lent` answers `lentAnswer` and leaves
+-- together, answers `optionsWritten` and leaves `optionsLeft`. `session::step` returns `stepped`, `session_cell::step_lent` answers `lentAnswer` and leaves
 -- `lentLeft`, each `fragments::write_.._part` answers `partWritten` and leaves `partLeft`, `assembly::join` returns `joined` and leaves `stored`,
 -- and the functions of BaseX answer and leave what is named in the last record.
 --
@@ -18,15 +18,13 @@ use Rattle.wire.specs.declared.Refusal.{Refusal}
 use Rattle.wire.specs.declared.Refusal.the-variants.{MoreBytes}
 use Rattle.wire.specs.Refusals.{numberOf}
 use Rattle.sedna.specs.declared.Side.{Side}
-use Rattle.sedna.specs.declared.Shape.the-variants.{Options}
-use Rattle.sedna.specs.Encode.{pairsBytes, bodyBytes}
-use Rattle.sedna.specs.Message.{Body, Message, message}
+use Rattle.sedna.specs.Encode.{bodyBytes}
+use Rattle.sedna.specs.Message.{Body, Message}
 use Rattle.sedna_read.specs.declared.Reading.the-variants as read
 use Rattle.sedna_read.specs.Reading.{Answer, reading}
-use Rattle.sedna_write.specs.declared.Written.{Written}
 use Rattle.sedna_write.specs.declared.Written.the-variants.{Refused}
-use Rattle.sedna_write.specs.Pairs.{sum, given, pairsOf}
-use Rattle.sedna_write.specs.Writing.{judgement, written, left}
+use Rattle.sedna_write.specs.Pairs.{sum, given, optionsWritten, optionsLeft}
+use Rattle.sedna_write.specs.Writing.{written, left}
 use Rattle.sedna_exact.specs.Due.{Due}
 use Rattle.sedna_exact.specs.Pieces.{piecesBytes, piecesOf}
 use Rattle.sedna_exact.specs.Unwritten.{Unwritten, UnwrittenLists}
@@ -75,10 +73,10 @@ pub record Sedna : Type 0 where
   -- Then what is written is a message (`options-written` in demand 2). Else the call is refused, with 2 or 8 as `UnwrittenLists` says, and leaves the output
   pub lists-together : (ids lengths values : List ℕ) → (given ids lengths values ≡ true) ↔ ((length ids ≡ length lengths) × (sum lengths ≡ length values))
   pub lists-refused : (room i : ℕ) (ids lengths values : List ℕ) → given ids lengths values ≡ false → (r : Refusal)
-      → (judgement i Options (given ids lengths values) (length (pairsBytes (pairsOf ids lengths values))) room ≡ Refused r) ↔ UnwrittenLists i r
+      → (optionsWritten room i ids lengths values ≡ Refused r) ↔ UnwrittenLists i r
   pub lists-left : (out : List ℕ) (i : ℕ) (ids lengths values : List ℕ) → given ids lengths values ≡ false
-      → (w : Written) → w ≡ judgement i Options (given ids lengths values) (length (pairsBytes (pairsOf ids lengths values))) (length out)
-      → (r : Refusal) × (w ≡ Refused r) × (left out (message i (Body.options (pairsOf ids lengths values))) w ≡ out)
+      → (r : Refusal) × (optionsWritten (length out) i ids lengths values ≡ Refused r)
+      × (optionsLeft out i ids lengths values (optionsWritten (length out) i ids lengths values) ≡ out)
   -- a refused step, of either form, leaves the session record as it was, and refuses with 1 to 9 only
   pub step-refused : (s : Session) (side : Side) (bytes : List ℕ) (r : Refusal) → stepped s side bytes .answer ≡ read.Refused r
       → (stepped s side bytes .session ≡ s) × (1 ≤ numberOf r) × (numberOf r ≤ 9)

@@ -18,7 +18,7 @@ use Rattle.sedna.specs.declared.Side.the-variants.{Client, Server}
 use Rattle.sedna.specs.declared.Entry.{Entry}
 use Rattle.sedna.specs.declared.Shape.the-variants.{Options}
 use Rattle.sedna.specs.Allowed.{formatAllowed, allowed}
-use Rattle.sedna.specs.Encode.{pairsBytes, bodyBytes}
+use Rattle.sedna.specs.Encode.{bodyBytes}
 use Rattle.sedna.specs.Message.{Url, Pair, Body, Message, message}
 use Rattle.sedna.specs.Names.{LongQueryEnd}
 use Rattle.sedna.specs.Published.{Published, Front, Writable}
@@ -29,15 +29,15 @@ use Rattle.sedna_read.specs.Meaning.{meaning, optionIn}
 use Rattle.sedna_read.specs.Places.{place, located, optionAt}
 use Rattle.sedna_read.specs.Reading.{Answer, reading}
 use Rattle.sedna_write.specs.declared.Written.the-variants as wrote
-use Rattle.sedna_write.specs.Pairs.{given, pairsOf}
-use Rattle.sedna_write.specs.Writing.{judgement, written, left}
+use Rattle.sedna_write.specs.Pairs.{given, pairsOf, optionsWritten}
+use Rattle.sedna_write.specs.Writing.{written, left}
 use Rattle.sedna_exact.specs.Pieces.{Bounded}
 use Rattle.grammar.specs.Grammar as grammar
 use Rattle.grammar.specs.Layout.{flatRequest, flatItem}
 use Rattle.grammar.specs.Sent.{Version, from, upTo}
 use Rattle.fragments.specs.Cut.{startRoom, cutStatement, cutItem, cutTypedItem}
 use Rattle.fragments.specs.declared.Parts.the-variants as counted
-use Rattle.fragments.specs.Part.{statementParts, itemPartsFrom, urlParts, partWritten, partLeft}
+use Rattle.fragments.specs.Part.{statementParts, itemPartsFrom, itemCount, urlParts, partWritten, partLeft}
 use Rattle.assembly.specs.declared.Open.the-variants as gathering
 use Rattle.assembly.specs.Cuttings.{Cutting, Ending, ending, messages, AllAllowed, Joins}
 use Rattle.assembly_handing.specs.Handing.{HandsOver}
@@ -89,7 +89,7 @@ pub record Sedna : Type 0 where
   pub writing-exact : (room : ℕ) (m : Message) → Bounded (m .body) → (n : ℕ) → (written room m ≡ wrote.Bytes n) ↔ Writable room m n
   -- options, which the writer takes as three lists: lists that belong together are written as the message with those options ..
   pub options-written : (room i : ℕ) (ids lengths values : List ℕ) → given ids lengths values ≡ true
-      → judgement i Options (given ids lengths values) (length (pairsBytes (pairsOf ids lengths values))) room ≡ written room (message i (Body.options (pairsOf ids lengths values)))
+      → optionsWritten room i ids lengths values ≡ written room (message i (Body.options (pairsOf ids lengths values)))
   -- .. option k having the k-th id and the next bytes of the values, as many as the k-th length ..
   pub options-are : (ids lengths values : List ℕ) → given ids lengths values ≡ true
       → (map (λ (p : Pair). p .id) (pairsOf ids lengths values) ≡ ids)
@@ -129,7 +129,7 @@ pub record Parts : Type 0 where
   -- an item up to 3.0, with either end behind its cut
   pub item-published : (text : List ℕ) → IsBytes text → Every (Published Server) (cutItem text)
   pub item-laid-out : (v : Version) → T (upTo 3 v) → (text : List ℕ) → IsBytes text → (i : grammar.Item v) × (flatItem i ≡ cutItem text)
-  pub item-counted : (text : List ℕ) → length (cutItem text) ≡ itemPartsFrom 10235 (length text)
+  pub item-counted : (text : List ℕ) → length (cutItem text) ≡ itemCount (length text)
   pub item-filled : (text : List ℕ) → Filled (cutItem text)
   pub item-rejoined : (text : List ℕ) (e : Ending) (d : List ℕ) → Rejoined gathering.Item (cutItem text ++ (ending e ∷ [])) [] text d
   -- an item of 4.0, URL or none

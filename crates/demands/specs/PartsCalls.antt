@@ -15,7 +15,7 @@ use Rattle.sedna_read.specs.Reading.{Answer, reading}
 use Rattle.sedna_write.specs.declared.Written.{Written}
 use Rattle.sedna_exact.specs.Pieces.{Bounded}
 use Rattle.fragments.specs.Cut.{cutStatement, cutItem, cutTypedItem}
-use Rattle.fragments.specs.Part.{statementParts, itemPartsFrom, urlParts}
+use Rattle.fragments.specs.Part.{statementParts, itemCount, typedItemCount, urlParts}
 use Rattle.fragments_exact.specs.PartDue.{PartRight}
 use Rattle.fragments_exact.specs.ThroughBytes.{Uncut, cut}
 use Rattle.assembly.specs.declared.Assembly.{Assembly}
@@ -129,9 +129,9 @@ pub record PartsCalls : Type 0 where
   -- `kdr_statement_parts`, `kdr_item_parts`, `kdr_typed_item_parts`, for any text that a size_t can measure
   pub statement-parts : (format : ℕ) (text : List ℕ) → length text < SIZES
       → answered (statementParts (length text)) ≡ Answered.count (length (cutStatement format text))
-  pub item-parts : (text : List ℕ) → length text < SIZES → answered (itemPartsFrom 10235 (length text)) ≡ Answered.count (length (cutItem text))
+  pub item-parts : (text : List ℕ) → length text < SIZES → answered (itemCount (length text)) ≡ Answered.count (length (cutItem text))
   pub typed-item-parts : (class kind : ℕ) (text : List ℕ) → length text < SIZES
-      → answered (itemPartsFrom 10232 (length text)) ≡ Answered.count (length (cutTypedItem class kind Url.absent text))
+      → answered (typedItemCount (length text)) ≡ Answered.count (length (cutTypedItem class kind Url.absent text))
   -- `kdr_typed_item_url_parts`
   pub typed-item-url-parts : (class kind : ℕ) (url text : List ℕ) → length text < SIZES
       → answered (partsCode (urlParts (length text) (length url)))

@@ -11,7 +11,6 @@ use Rattle.wire.specs.declared.Refusal.{Refusal}
 use Rattle.wire.specs.Refusals.{numberOf}
 use Rattle.sedna.specs.declared.Entry.{Entry}
 use Rattle.sedna.specs.declared.Shape.{Shape}
-use Rattle.sedna.specs.declared.Shape.the-variants.{Options}
 use Rattle.sedna.specs.declared.Side.{Side}
 use Rattle.sedna.specs.Message.{Pair, Body, Message, message}
 use Rattle.sedna.specs.Table.{InTable}
@@ -20,8 +19,8 @@ use Rattle.sedna_read.specs.Places.{optionAt}
 use Rattle.sedna_read.specs.Reading.{Answer, reading}
 use Rattle.sedna_write.specs.declared.Written.{Written}
 use Rattle.sedna_write.specs.declared.Written.the-variants as wrote
-use Rattle.sedna_write.specs.Pairs.{given}
-use Rattle.sedna_write.specs.Writing.{judgement, left}
+use Rattle.sedna_write.specs.Pairs.{given, optionsWritten, optionsLeft}
+use Rattle.sedna_write.specs.Writing.{judgement}
 use Rattle.sedna_c.specs.Codes.{writtenCode, sideReading, readCode, fieldsLeft, optionCode, optionLeft}
 use Rattle.demands.specs.Answered.{Answered, answered}
 use Rattle.demands.specs.Header.{_at_, slice, SideOf, START-1, LENGTH-1, COUNT, FIELDS, OPTION-FIELDS, pairTold, Tells}
@@ -84,6 +83,6 @@ pub record SednaCalls : Type 0 where
   pub write : (instruction : ℕ) (shape : Shape) (ok : Bool) (n room : ℕ)
       → answered (writtenCode (judgement instruction shape ok n room)) ≡ writtenAs (judgement instruction shape ok n room)
   -- `kdr_write_options`, where the three lists do not belong together
-  pub lists : (instruction : ℕ) (ids lengths values : List ℕ) (n : ℕ) (out : List ℕ) (m : Message) → given ids lengths values ≡ false
-      → ListsRefused instruction out (answered (writtenCode (judgement instruction Options (given ids lengths values) n (length out))))
-      (left out m (judgement instruction Options (given ids lengths values) n (length out)))
+  pub lists : (instruction : ℕ) (ids lengths values out : List ℕ) → given ids lengths values ≡ false
+      → ListsRefused instruction out (answered (writtenCode (optionsWritten (length out) instruction ids lengths values)))
+      (optionsLeft out instruction ids lengths values (optionsWritten (length out) instruction ids lengths values))

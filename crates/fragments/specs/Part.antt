@@ -28,6 +28,14 @@ statementParts n = if (leb n statementRoom) 1 (pieceCount statementRoom n + 1)
 abbrev pub itemPartsFrom : ℕ → ℕ → ℕ
 itemPartsFrom first n = 1 + pieceCount partRoom (n - first)
 
+-- "An item up to 3.0 is cut in parts of 10,235, at least one."
+abbrev pub itemCount : ℕ → ℕ
+itemCount n = itemPartsFrom partRoom n
+
+-- one of 4.0 without a URL: "ItemStart takes up to 10,232 bytes"
+abbrev pub typedItemCount : ℕ → ℕ
+typedItemCount n = itemPartsFrom 10232 n
+
 -- "10,227 - u with a URL of u bytes (u above 10,227: 11)"
 abbrev pub urlParts : ℕ → ℕ → Parts
 urlParts n url = if (leb url 10227) (parts.Are (itemPartsFrom (10227 - url) n)) (parts.Refused NoEncoding)

@@ -8,7 +8,7 @@ ghost use lib.ListN.{length, take, drop, getElem?};
 ghost use Rattle.sedna.specs.Allowed.{formatAllowed, allowed};
 ghost use Rattle.sedna.specs.Message.{Url, Body};
 ghost use Rattle.fragments.specs.Cut.{cutStatement, itemParts, cutItem, cutTypedItem};
-ghost use Rattle.fragments.specs.Part.{pieceCount, statementParts, itemPartsFrom, urlParts, writtenOf, partWritten, partLeft};
+ghost use Rattle.fragments.specs.Part.{pieceCount, statementParts, itemPartsFrom, itemCount, typedItemCount, urlParts, writtenOf, partWritten, partLeft};
 use sedna::names;
 use sedna_write::Written;
 use sedna_write::write_empty;
@@ -68,14 +68,14 @@ fn parts_from(first: usize, n: usize) -> usize
 
 // How many messages an item of n bytes is cut into, up to 3.0.
 pub fn item_parts(n: usize) -> usize
-    ensures { λ r. ⌜ r ≡ itemPartsFrom 10235 n ⌝ }
+    ensures { λ r. ⌜ r ≡ itemCount n ⌝ }
 {
     parts_from(PART_ROOM, n)
 }
 
 // How many in 4.0, without a URL.
 pub fn typed_item_parts(n: usize) -> usize
-    ensures { λ r. ⌜ r ≡ itemPartsFrom 10232 n ⌝ }
+    ensures { λ r. ⌜ r ≡ typedItemCount n ⌝ }
 {
     parts_from(START_ROOM, n)
 }

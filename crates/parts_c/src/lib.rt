@@ -4,7 +4,7 @@ ghost use mathlib.Core.Path.{_≡_};
 ghost use lib.ListN.{length};
 ghost use Rattle.sedna.specs.Message.{Url};
 ghost use Rattle.fragments.specs.Cut.{cutStatement, cutItem, cutTypedItem};
-ghost use Rattle.fragments.specs.Part.{statementParts, itemPartsFrom, urlParts};
+ghost use Rattle.fragments.specs.Part.{statementParts, itemCount, typedItemCount, urlParts};
 ghost use Rattle.sedna_c.specs.Codes.{writtenCode};
 ghost use Rattle.parts_c.specs.Parts.{partsCode, statementPart, itemPart, typedItemPart, typedItemUrlPart, cutLeft};
 use fragments::Parts;
@@ -22,14 +22,14 @@ pub extern "C" fn kdr_statement_parts(n: usize) -> u64
 
 #[no_mangle]
 pub extern "C" fn kdr_item_parts(n: usize) -> u64
-    ensures { λ r. ⌜ r ≡ itemPartsFrom 10235 n ⌝ }
+    ensures { λ r. ⌜ r ≡ itemCount n ⌝ }
 {
     fragments::item_parts(n) as u64
 }
 
 #[no_mangle]
 pub extern "C" fn kdr_typed_item_parts(n: usize) -> u64
-    ensures { λ r. ⌜ r ≡ itemPartsFrom 10232 n ⌝ }
+    ensures { λ r. ⌜ r ≡ typedItemCount n ⌝ }
 {
     fragments::typed_item_parts(n) as u64
 }

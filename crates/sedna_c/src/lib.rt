@@ -4,12 +4,10 @@ ghost use mathlib.Core.List.{_++_};
 ghost use mathlib.Core.Path.{_≡_};
 ghost use Prim.Native.Nat.{_≤_};
 ghost use lib.ListN.{length, take, drop};
-ghost use Rattle.sedna.specs.declared.Shape.the-variants.{Options as options};
-ghost use Rattle.sedna.specs.Encode.{pairsBytes};
 ghost use Rattle.sedna.specs.Message.{Url, Body, message};
 ghost use Rattle.sedna_read.specs.Places.{optionAt};
-ghost use Rattle.sedna_write.specs.Pairs.{given, pairsOf};
-ghost use Rattle.sedna_write.specs.Writing.{judgement, written, left};
+ghost use Rattle.sedna_write.specs.Pairs.{optionsWritten, optionsLeft};
+ghost use Rattle.sedna_write.specs.Writing.{written, left};
 ghost use Rattle.sedna_c.specs.Codes.{writtenCode, fieldList, fieldsOf, optionCode, optionLeft};
 use sedna_read::OptionPlace;
 use sedna_read::Places;
@@ -221,7 +219,9 @@ pub extern "C" fn kdr_write_options(
     lengths: &[usize],
     values: &[u8],
 ) -> u64
-    ensures { λ r. ⌜ (r ≡ writtenCode (judgement instruction options (given (now (ids .entry)) (now (lengths .entry)) (now (values .entry))) (length (pairsBytes (pairsOf (now (ids .entry)) (now (lengths .entry)) (now (values .entry))))) (length (now (out .entry))))) × (now (out .exit) ≡ left (now (out .entry)) (message instruction (Body.options (pairsOf (now (ids .entry)) (now (lengths .entry)) (now (values .entry))))) (judgement instruction options (given (now (ids .entry)) (now (lengths .entry)) (now (values .entry))) (length (pairsBytes (pairsOf (now (ids .entry)) (now (lengths .entry)) (now (values .entry))))) (length (now (out .entry))))) ⌝ }
+    ensures { λ r. ⌜ (r ≡ writtenCode (optionsWritten (length (now (out .entry))) instruction (now (ids .entry)) (now (lengths .entry)) (now (values .entry))))
+        × (now (out .exit) ≡ optionsLeft (now (out .entry)) instruction (now (ids .entry)) (now (lengths .entry)) (now (values .entry))
+        (optionsWritten (length (now (out .entry))) instruction (now (ids .entry)) (now (lengths .entry)) (now (values .entry)))) ⌝ }
 {
     written_code(sedna_write::write_options(out, instruction, ids, lengths, values))
 }

@@ -21,10 +21,9 @@ use Rattle.sedna.specs.Encode.{bodyBytes, pairsBytes}
 use Rattle.sedna.specs.Message.{Pair, Body, message}
 use Rattle.sedna.specs.Kinds.{sameShape}
 use Rattle.sedna.specs.Table.{findOf, fitOf}
-use Rattle.sedna_write.specs.declared.Written.{Written}
 use Rattle.sedna_write.specs.declared.Written.the-variants.{Refused}
-use Rattle.sedna_write.specs.Pairs.{sum, given, pairsOf}
-use Rattle.sedna_write.specs.Writing.{judgedAs, judgement, written, left}
+use Rattle.sedna_write.specs.Pairs.{sum, given, pairsOf, optionsWritten, optionsLeft}
+use Rattle.sedna_write.specs.Writing.{judgedAs, judgement, written}
 use Rattle.sedna_exact.specs.Unwritten.{UnwrittenLists}
 use Rattle.sedna_exact.proofs.Branches.{both}
 use Rattle.sedna_exact.proofs.Due.{lacking, lacks}
@@ -135,10 +134,10 @@ lists-refused room i ids lengths values e r = rw e (back, due-lists room n i)
 
 -- always one of the two, and the output is left
 pub lists-left : (out : List ℕ) (i : ℕ) (ids lengths values : List ℕ) → given ids lengths values ≡ false
-    → (w : Written) → w ≡ judgement i shape.Options (given ids lengths values) (length (pairsBytes (pairsOf ids lengths values))) (length out)
-    → (r : Refusal) × (w ≡ Refused r) × (left out (message i (Body.options (pairsOf ids lengths values))) w ≡ out)
-lists-left out i ids lengths values e w q =
+    → (r : Refusal) × (optionsWritten (length out) i ids lengths values ≡ Refused r)
+    × (optionsLeft out i ids lengths values (optionsWritten (length out) i ids lengths values) ≡ out)
+lists-left out i ids lengths values e =
     let n : ℕ = length (pairsBytes (pairsOf ids lengths values)) in
     let x = refused-lists (length out) n i in
-    let is : w ≡ Refused (x .0) = q ∙ ap (λ (b : Bool). judgement i shape.Options b n (length out)) e ∙ x .1 in
-    (x .0, is, ap (left out (message i (Body.options (pairsOf ids lengths values)))) is)
+    let is : optionsWritten (length out) i ids lengths values ≡ Refused (x .0) = ap (λ (b : Bool). judgement i shape.Options b n (length out)) e ∙ x .1 in
+    (x .0, is, ap (optionsLeft out i ids lengths values) is)

@@ -5,7 +5,11 @@ use Prim.Native.Nat.{ℕ, _+_}
 use lib.Dec.{eqb}
 use lib.ListN.{length, take, drop}
 use Rattle.wire.specs.Bytes.{if}
-use Rattle.sedna.specs.Message.{Pair}
+use Rattle.sedna.specs.declared.Shape.the-variants.{Options}
+use Rattle.sedna.specs.Encode.{pairsBytes}
+use Rattle.sedna.specs.Message.{Pair, Body, message}
+use Rattle.sedna_write.specs.declared.Written.{Written}
+use Rattle.sedna_write.specs.Writing.{judgement, left}
 
 unfoldable pub sum : List ℕ → ℕ
 sum [] = 0
@@ -19,3 +23,12 @@ unfoldable pub pairsOf : List ℕ → List ℕ → List ℕ → List Pair
 pairsOf [] lengths values = []
 pairsOf (id ∷ ids) [] values = []
 pairsOf (id ∷ ids) (n ∷ lengths) values = record { id = id; value = take n values } ∷ pairsOf ids lengths (drop n values)
+
+-- what writing the options of three lists answers, for an output of so many bytes: lists that do not belong together are a value that is not allowed
+abbrev pub optionsWritten : ℕ → ℕ → List ℕ → List ℕ → List ℕ → Written
+optionsWritten room instruction ids lengths values =
+    judgement instruction Options (given ids lengths values) (length (pairsBytes (pairsOf ids lengths values))) room
+
+-- the output then
+abbrev pub optionsLeft : List ℕ → ℕ → List ℕ → List ℕ → List ℕ → Written → List ℕ
+optionsLeft out instruction ids lengths values w = left out (message instruction (Body.options (pairsOf ids lengths values))) w

@@ -4,10 +4,9 @@ ghost use mathlib.Core.Path.{_≡_};
 ghost use Prim.Native.Nat.{_+_, _≤_, min};
 ghost use lib.ListN.{length};
 ghost use Rattle.wire.specs.Bytes.{placed};
-ghost use Rattle.sedna.specs.declared.Shape.the-variants.{Options as options};
 ghost use Rattle.sedna.specs.Encode.{string, pairBytes, pairsBytes};
 ghost use Rattle.sedna.specs.Message.{Url, Body, message};
-ghost use Rattle.sedna_write.specs.Pairs.{sum, given, pairsOf};
+ghost use Rattle.sedna_write.specs.Pairs.{sum, given, pairsOf, optionsWritten, optionsLeft};
 ghost use Rattle.sedna_write.specs.Writing.{judgement, written, left, Fits, headed};
 use sedna::Fit;
 use sedna::Shape;
@@ -259,7 +258,8 @@ pub fn write_options(
     lengths: &[usize],
     values: &[u8],
 ) -> Written
-    ensures { λ r. ⌜ (r ≡ judgement instruction options (given (now (ids .entry)) (now (lengths .entry)) (now (values .entry))) (length (pairsBytes (pairsOf (now (ids .entry)) (now (lengths .entry)) (now (values .entry))))) (length (now (out .entry)))) × (now (out .exit) ≡ left (now (out .entry)) (message instruction (Body.options (pairsOf (now (ids .entry)) (now (lengths .entry)) (now (values .entry))))) r) ⌝ }
+    ensures { λ r. ⌜ (r ≡ optionsWritten (length (now (out .entry))) instruction (now (ids .entry)) (now (lengths .entry)) (now (values .entry)))
+        × (now (out .exit) ≡ optionsLeft (now (out .entry)) instruction (now (ids .entry)) (now (lengths .entry)) (now (values .entry)) r) ⌝ }
 {
     let allowed = pairs_given(ids, lengths, values);
     let n = capped(ids.len(), 0) * 9 + capped(values.len(), 0);
