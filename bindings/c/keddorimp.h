@@ -362,7 +362,7 @@ enum kdr_told {
     KDR_TOLD_LENGTH = 1, /* the first so many bytes of the buffer */
     KDR_TOLD_FORMAT = 2, /* of a statement, its first part's; */
     KDR_TOLD_CLASS = 2,  /* or of an item of 4.0, */
-    KDR_TOLD_TYPE = 3,   /* with its type */
+    KDR_TOLD_TYPE = 3,   /* with its type; what is not named is 0 */
     KDR_TOLD_FIELDS = 4
 };
 

@@ -1,6 +1,6 @@
 // Joining that returns what is finished as a part of the caller's buffer, beside the record and the
 // answer. A struct that holds a slice is beyond the borrow checker: `join_handing` is proved by a walk
-// of its statements, and does no more than to call two functions that are covered.
+// of its statements, and does no more than call two functions that are covered.
 ghost use mathlib.Core.Path.{_≡_};
 ghost use lib.ListN.{length, take};
 ghost use Rattle.sedna.specs.Message.{message};

@@ -206,6 +206,6 @@ one-reply t x y p q = is x p ∙ sym (is y q)
   where
     is : (z : Reply) → TellsReply t z → z ≡ replyTold t (openOf (t at TOLD-WHAT))
     is z (TellsReply.part g o) = ap (replyTold t) (gathering-is g)
-    is z (TellsReply.statement g) = ap (replyTold t) (gathering-is g)
-    is z (TellsReply.item g) = ap (replyTold t) (gathering-is g)
+    is z (TellsReply.statement g o) = ap (replyTold t) (gathering-is g)
+    is z (TellsReply.item g o) = ap (replyTold t) (gathering-is g)
     is z (TellsReply.typed-item g) = ap (replyTold t) (gathering-is g)

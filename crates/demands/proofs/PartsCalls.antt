@@ -175,8 +175,8 @@ module _ (c : Join) where
 
           by : (x : Joins) → joined a (length (c .buffer)) m .answer ≡ x → Goal x
           by answer.Part q = took answer.Part q refl (TellsReply.part Gathering.nothing (refl, (refl, (refl, tt)))) refl refl
-          by (answer.Statement format k) q = took (answer.Statement format k) q refl (TellsReply.statement Gathering.statement) refl refl
-          by (answer.Item k) q = took (answer.Item k) q refl (TellsReply.item Gathering.item) refl refl
+          by (answer.Statement format k) q = took (answer.Statement format k) q refl (TellsReply.statement Gathering.statement (refl, tt)) refl refl
+          by (answer.Item k) q = took (answer.Item k) q refl (TellsReply.item Gathering.item (refl, (refl, tt))) refl refl
           by (answer.TypedItem class kind k) q = took (answer.TypedItem class kind k) q refl (TellsReply.typed-item Gathering.typed-item) refl refl
           by (answer.Refused r) q =
               let number : replied c a m ≡ Reply.number (numberOf r) = ap reply q in

@@ -2,13 +2,14 @@
 use mathlib.Core.Bool.{Bool, true, false}
 use mathlib.Core.List.{List, _∷_}
 use mathlib.Core.Option.{some}
-use mathlib.Core.Path.{_≡_, refl, sym, subst}
+use mathlib.Core.Path.{_≡_, refl, sym, _∙_, subst}
 use Prim.Native.Nat.{ℕ, _+_, _-_, _≤_}
 use native.Mathlib.Omega.{arith}
 use lib.Dec.{eqb, ltb}
-use lib.ListN.{length, drop, getElem?}
+use lib.ListN.{length, drop, getElem?, length-take, length-drop}
 use borrow.Author.Tests.{le-ltb, ltb-true, ltb-false, eqb-true, eqb-false}
 use Rattle.wire.specs.Bytes.{IsBytes, if}
+use Rattle.wire.specs.declared.Place.{Place}
 use Rattle.wire.specs.declared.Refusal.the-variants.{UnknownInstruction, ValueNotAllowed, NoRoom, NoEncoding}
 use Rattle.wire.specs.Refusals.{refusalCode}
 use Rattle.sedna.specs.declared.Fit.{Fit}
@@ -29,16 +30,19 @@ use Rattle.sedna_read.specs.declared.Reading.the-variants as reads
 use Rattle.sedna_read.specs.Meaning.{partOf, optionIn}
 use Rattle.sedna_read.specs.Places.{placesOf, located, optionAt}
 use Rattle.sedna_read.specs.Reading.{Answer, reading}
+use Rattle.sedna_read.proofs.Pairs.{option-past}
 use Rattle.sedna_write.specs.declared.Written.{Written}
 use Rattle.sedna_write.specs.declared.Written.the-variants as wrote
 use Rattle.sedna_write.specs.Pairs.{pairsOf}
 use Rattle.sedna_write.specs.Writing.{judgedAs, judgement, left}
 use Rattle.sedna_c.specs.Codes.{writtenCode, sideReading, readCode, fieldsLeft, optionCode, optionLeft}
+use Rattle.sedna_exact.proofs.Branches.{apart}
+use Rattle.sedna_exact.proofs.Bytes.{bytes-part}
 use Rattle.sedna_exact.proofs.Due.{lacking}
-use Rattle.sedna_exact.proofs.Options.{option-exact}
+use Rattle.sedna_exact.proofs.Options.{option-exact, option-inside}
 use Rattle.sedna_exact.proofs.Table.{listed-find}
 use Rattle.demands.specs.Answered.{Answered, answered}
-use Rattle.demands.specs.Header.{_at_, slice, SideOf, client, server, START-1, LENGTH-1, COUNT}
+use Rattle.demands.specs.Header.{_at_, slice, Inside, SideOf, client, server, START-1, LENGTH-1, COUNT}
 use Rattle.demands.specs.SednaCalls.{ReadRight, OptionRight, OptionCalled, writtenAs, ListsRefused, SednaCalls}
 use Rattle.demands.proofs.Tells.{counted, refused, read-count, tells, behind, one-message}
 
@@ -98,16 +102,27 @@ module _ (side : ℕ) (bytes lent : List ℕ) (are : IsBytes bytes) where
       by (Sides.two o e) = rw (side-read side Server bytes (is-server e)) (by-side Server (is-server e))
       by (Sides.neither o p none) = rw (side-nobody side bytes o p, refused ValueNotAllowed) (ReadRight.nobody none)
 
-option-there : (bytes lent : List ℕ) (o : OptionPlace) → OptionRight bytes lent (optionIn bytes o) (answered (optionCode o (length lent))) (optionLeft o lent)
-option-there bytes lent place.Missing = rw (counted 0 (omega arith)) OptionRight.missing
-option-there bytes lent (place.At id v) = by (ltb (length lent) 3) refl
+option-there : (bytes lent : List ℕ) (o : OptionPlace) → ((id : ℕ) (v : Place) → o ≡ place.At id v → Inside bytes (v .start) (v .len))
+    → OptionRight bytes lent (optionIn bytes o) (answered (optionCode o (length lent))) (optionLeft o lent)
+option-there bytes lent place.Missing h = rw (counted 0 (omega arith)) OptionRight.missing
+option-there bytes lent (place.At id v) h = by (ltb (length lent) 3) refl
   where
     by : (t : Bool) → ltb (length lent) 3 ≡ t → OptionRight bytes lent (some (record { id = id; value = partOf bytes v })) (answered (if t (refusalCode NoRoom) 1)) (if t lent (id ∷ v .start ∷ v .len ∷ drop 3 lent))
     by true short = rw (refused NoRoom) (OptionRight.no-room _ (ltb-true (length lent) 3 short))
-    by false room = rw (counted 1 (omega arith)) (OptionRight.told _ _ (ltb-false (length lent) 3 room) refl refl)
+    by false room = rw (counted 1 (omega arith)) (OptionRight.told _ _ (ltb-false (length lent) 3 room) refl (h id v refl) refl)
 
-option : (bytes : List ℕ) (start length′ k : ℕ) (lent : List ℕ) → OptionCalled bytes start length′ k lent (optionIn bytes (optionAt k start (slice bytes start length′)))
-option bytes start length′ k lent = option-there bytes lent (optionAt k start (slice bytes start length′))
+-- a place behind the bytes has no option, and any other one lies in them
+option-in : (bytes : List ℕ) → IsBytes bytes → (start len k id : ℕ) (v : Place) → optionAt k start (slice bytes start len) ≡ place.At id v → Inside bytes (v .start) (v .len)
+option-in bytes are start len k id v e = by (ltb (length bytes) start) refl
+  where
+    by : (t : Bool) → ltb (length bytes) start ≡ t → Inside bytes (v .start) (v .len)
+    by true t = let z : place.Missing ≡ place.At id v = sym (option-past k bytes start len (ltb-true (length bytes) start t)) ∙ e in apart (cc)
+    by false t =
+        let within = option-inside k start (slice bytes start len) (bytes-part bytes start len are) id v e in
+        omega (arith, within, ltb-false (length bytes) start t, length-take len (drop start bytes), length-drop start bytes)
+
+option : (bytes : List ℕ) → IsBytes bytes → (start length′ k : ℕ) (lent : List ℕ) → OptionCalled bytes start length′ k lent (optionIn bytes (optionAt k start (slice bytes start length′)))
+option bytes are start length′ k lent = option-there bytes lent (optionAt k start (slice bytes start length′)) (option-in bytes are start length′ k)
 
 options : (side : ℕ) (bytes f : List ℕ) → IsBytes bytes → 10 ≤ length f
     → (s : Side) (i n : ℕ) (ps : List Pair) → SideOf side s → reading s bytes ≡ Answer.accepted (message i (Body.options ps)) n
@@ -116,7 +131,7 @@ options : (side : ℕ) (bytes f : List ℕ) → IsBytes bytes → 10 ≤ length 
     → OptionCalled bytes (fieldsLeft (sideReading side bytes) f at START-1) (fieldsLeft (sideReading side bytes) f at LENGTH-1) k lent (getElem? ps k))
 options side bytes f are room s i n ps is e =
     rw (side-read side s bytes is, e, le-ltb (length f) 10 room)
-    (refl, λ k lent. subst (OptionCalled bytes 8 (n - 8) k lent) (option-exact s bytes are i n ps e k) (option bytes 8 (n - 8) k lent))
+    (refl, λ k lent. subst (OptionCalled bytes 8 (n - 8) k lent) (option-exact s bytes are i n ps e k) (option bytes are 8 (n - 8) k lent))
 
 judged : (x : Fit) (ok : Bool) (n room : ℕ) → answered (writtenCode (judgedAs x ok n room)) ≡ writtenAs (judgedAs x ok n room)
 judged fit.Unknown ok n room = refused UnknownInstruction

@@ -5,12 +5,13 @@ use mathlib.Core.Path.{_≡_, refl, sym, ap, subst, _∙_}
 use Prim.Native.Nat.{ℕ, suc, _+_, _-_, _≤_, _<_}
 use native.Mathlib.Omega.{arith}
 use lib.Dec.{eqb}
-use lib.ListN.{length, take, drop, getElem?}
+use lib.ListN.{length, take, drop, getElem?, length-append}
 use borrow.Author.Tests.{lt-ltb, le-ltb}
-use Rattle.wire.specs.Bytes.{IsBytes, if}
+use Rattle.wire.specs.Bytes.{IsBytes, if, int}
 use Rattle.wire.specs.declared.Refusal.{Refusal}
 use Rattle.wire.specs.Refusals.{numberOf, refusalCode}
 use Rattle.sedna.specs.declared.Side.{Side}
+use Rattle.sedna.specs.Encode.{string, urlBytes, bodyBytes, encode}
 use Rattle.sedna.specs.Message.{Url, Pair, Body, Message, message}
 use Rattle.sedna_read.specs.declared.OptionPlace.{OptionPlace}
 use Rattle.sedna_read.specs.declared.OptionPlace.the-variants as option
@@ -22,12 +23,12 @@ use Rattle.sedna_read.specs.Places.{placesOf, optionAt}
 use Rattle.sedna_read.specs.Reading.{Answer, reading}
 use Rattle.sedna_c.specs.Codes.{fieldsOf, optionLeft}
 use Rattle.sedna_exact.proofs.Branches.{apart}
-use Rattle.sedna_exact.proofs.Exact.{exact}
+use Rattle.sedna_exact.proofs.Exact.{exact, front-split}
 use Rattle.sedna_exact.proofs.Meaning.{meaning-located}
 use Rattle.sedna_exact.proofs.Options.{option-exact}
 use Rattle.sedna_exact.proofs.Written.{encode-length}
 use Rattle.demands.specs.Answered.{Answered, REFUSED, answered}
-use Rattle.demands.specs.Header.{_at_, slice, upTo, INSTRUCTION, SHAPE, START-1, LENGTH-1, START-2, LENGTH-2, COUNT, HAS-URL, MAJOR, MINOR, FORMAT, CODE, CLASS, TYPE, URL-START, URL-LENGTH, pairTold, optionNumbers, Row, Tells}
+use Rattle.demands.specs.Header.{_at_, slice, Inside, upTo, INSTRUCTION, SHAPE, START-1, LENGTH-1, START-2, LENGTH-2, COUNT, HAS-URL, MAJOR, MINOR, FORMAT, CODE, CLASS, TYPE, URL-START, URL-LENGTH, pairTold, optionNumbers, Row, Tells}
 
 pub counted : (n : ℕ) → n < 9223372036854775808 → answered n ≡ Answered.count n
 counted n h = rw (lt-ltb n REFUSED h)
@@ -85,6 +86,21 @@ module _ (side : Side) (s : List ℕ) (h : IsBytes s) (i n : ℕ) where
   row (Body.item class kind (Url.present url) part) rest e =
       subst (Row s (Numbers (Body.item class kind (Url.present url) part) rest)) (body-there _ e) (Row.item-url refl (refl, tt) refl)
 
+  abbrev Holds : Body → List ℕ → Type 0
+  Holds b rest = Inside s (Numbers b rest at START-1) (Numbers b rest at LENGTH-1) × Inside s (Numbers b rest at START-2) (Numbers b rest at LENGTH-2)
+
+  -- the told places lie in the n bytes that were read
+  inside : (b : Body) (rest : List ℕ) → n ≡ 8 + length (bodyBytes b) → n ≤ length s → Holds b rest
+  unfolding bodyBytes urlBytes string int
+  inside Body.empty rest c l = (omega arith, omega arith)
+  inside (Body.session major minor user database) rest c l = let q = length-append (string user) (string database) in (omega (arith, c, l, q), omega (arith, c, l, q))
+  inside (Body.text t) rest c l = (omega (arith, c, l), omega arith)
+  inside (Body.statement format t) rest c l = (omega (arith, c, l), omega arith)
+  inside (Body.coded code t) rest c l = (omega (arith, c, l), omega arith)
+  inside (Body.options ps) rest c l = (omega (arith, c, l), omega arith)
+  inside (Body.item class kind Url.absent part) rest c l = (omega (arith, c, l), omega arith)
+  inside (Body.item class kind (Url.present url) part) rest c l = let q = length-append (string url) (string part) in (omega (arith, c, l, q), omega (arith, c, l, q))
+
 front : (i : ℕ) (p : Places) (rest : List ℕ) → (fieldsOf i p ++ rest) at INSTRUCTION ≡ i
 front i places.Empty rest = refl
 front i (places.Session major minor user database) rest = refl
@@ -97,7 +113,17 @@ front i (places.Item class kind (url.At u) part) rest = refl
 
 pub tells : (side : Side) (s : List ℕ) → IsBytes s → (m : Message) (n : ℕ) → reading side s ≡ Answer.accepted m n
     → (rest : List ℕ) → Tells s (fieldsOf (m .instruction) (placesOf 8 (n - 8) (m .body)) ++ rest) m
-tells side s h m n e rest = record { instruction = front (m .instruction) (placesOf 8 (n - 8) (m .body)) rest; body = row side s h (m .instruction) n (m .body) rest e }
+tells side s h m n e rest =
+    let there = exact side s h m n .0 e in
+    let long = ap length (front-split (there .1)) ∙ length-append (encode m) (drop n s) in
+    let count = there .1 .count in
+    let places = inside side s h (m .instruction) n (m .body) rest (omega (arith, count, encode-length m)) (omega (arith, count, long)) in
+    record {
+      instruction = front (m .instruction) (placesOf 8 (n - 8) (m .body)) rest;
+      body = row side s h (m .instruction) n (m .body) rest e;
+      first = places .0;
+      second = places .1;
+    }
 
 -- and numbers behind the ten are behind them
 pub behind : (i : ℕ) (p : Places) (rest : List ℕ) → drop 10 (fieldsOf i p ++ rest) ≡ rest

@@ -2,7 +2,7 @@
 -- by the names in the header `bindings/c/keddorimp.h`, is what was read or written.
 --
 -- `Called` and the definitions behind it have the right sides of the contracts. For each call a record or a type says what right is, and
--- `BaseXCalls`, at the end, that every call comes out right, whatever it is lent.
+-- `BaseXCalls`, at the end, that every call comes out right, whatever can be lent (`Lendable`).
 use mathlib.Core.Bool.{Bool, true, false}
 use mathlib.Core.List.{List, [], _∷_, _++_, flatten}
 use mathlib.Core.Logic.{_⊎_}

@@ -82,7 +82,7 @@ TOLD-FIELDS = 4
 pub data TellsReply (t : List ℕ) : Reply → Type 0 where
   -- "KDR_NOTHING for a part, and the others are 0"
   part : Gathering (t at TOLD-WHAT) Nothing → Zero t (TOLD-LENGTH ∷ TOLD-CLASS ∷ TOLD-TYPE ∷ []) → TellsReply t Reply.taken
-  -- "else what is finished"
-  statement : Gathering (t at TOLD-WHAT) Statement → TellsReply t (Reply.whole (t at TOLD-FORMAT ∷ []) (t at TOLD-LENGTH))
-  item : Gathering (t at TOLD-WHAT) Item → TellsReply t (Reply.whole [] (t at TOLD-LENGTH))
+  -- "else what is finished"; what is not named is 0
+  statement : Gathering (t at TOLD-WHAT) Statement → Zero t (TOLD-TYPE ∷ []) → TellsReply t (Reply.whole (t at TOLD-FORMAT ∷ []) (t at TOLD-LENGTH))
+  item : Gathering (t at TOLD-WHAT) Item → Zero t (TOLD-CLASS ∷ TOLD-TYPE ∷ []) → TellsReply t (Reply.whole [] (t at TOLD-LENGTH))
   typed-item : Gathering (t at TOLD-WHAT) TypedItem → TellsReply t (Reply.whole (t at TOLD-CLASS ∷ t at TOLD-TYPE ∷ []) (t at TOLD-LENGTH))

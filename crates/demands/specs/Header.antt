@@ -2,8 +2,8 @@
 -- KDR_, with - for _.
 use mathlib.Core.List.{List, [], _∷_}
 use mathlib.Core.Path.{_≡_}
-use Prim.Native.Nat.{ℕ, zero, suc}
-use lib.ListN.{getD, take, drop}
+use Prim.Native.Nat.{ℕ, zero, suc, _+_, _≤_}
+use lib.ListN.{length, getD, take, drop}
 use Rattle.wire.specs.Every.{Every}
 use Rattle.sedna.specs.declared.Side.{Side}
 use Rattle.sedna.specs.declared.Side.the-variants.{Client, Server}
@@ -22,7 +22,11 @@ Zero f = Every (λ (name : ℕ). f at name ≡ 0)
 
 -- the bytes from a start on, so many as a length says
 abbrev pub slice : List ℕ → ℕ → ℕ → List ℕ
-slice bytes start length = take length (drop start bytes)
+slice bytes start len = take len (drop start bytes)
+
+-- a start and a length lie in the bytes, also where the length is 0
+abbrev pub Inside : List ℕ → ℕ → ℕ → Type 0
+Inside bytes start len = start + len ≤ length bytes
 
 -- f 0, f 1, … f (n - 1)
 abbrev pub upTo : {A : Type 0} → ℕ → (ℕ → A) → List A
@@ -166,3 +170,5 @@ pub data Row (bytes f : List ℕ) : Body → Type 0 where
 pub record Tells (bytes f : List ℕ) (m : Message) : Type 0 where
   pub instruction : f at INSTRUCTION ≡ m .instruction
   pub body : Row bytes f (m .body)
+  pub first : Inside bytes (f at START-1) (f at LENGTH-1)
+  pub second : Inside bytes (f at START-2) (f at LENGTH-2)

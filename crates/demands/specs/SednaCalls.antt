@@ -1,5 +1,5 @@
--- What `kdr_read`, `kdr_option` and the calls that write a message answer and leave, turned back into what it means by the header's names. What `answered`
--- is applied to, and what is named as left, are the right sides of the contracts; those of the session's calls are in Exports.antt.
+-- What `kdr_read` and `kdr_option` answer and leave, and what the calls that write a message answer, turned back into what it means by the header's
+-- names. What `answered` is applied to, and what is named as left, are the right sides of the contracts; those of the session's calls are in Exports.antt.
 use mathlib.Core.Bool.{Bool, false}
 use mathlib.Core.List.{List}
 use mathlib.Core.Option.{Option, none, some}
@@ -23,7 +23,8 @@ use Rattle.sedna_write.specs.Pairs.{given, optionsWritten, optionsLeft}
 use Rattle.sedna_write.specs.Writing.{judgement}
 use Rattle.sedna_c.specs.Codes.{writtenCode, sideReading, readCode, fieldsLeft, optionCode, optionLeft}
 use Rattle.demands.specs.Answered.{Answered, answered}
-use Rattle.demands.specs.Header.{_at_, slice, SideOf, START-1, LENGTH-1, COUNT, FIELDS, OPTION-FIELDS, pairTold, Tells}
+use Rattle.demands.specs.Header.{_at_, slice, Inside, SideOf, START-1, LENGTH-1, COUNT, FIELDS, pairTold, Tells}
+use Rattle.demands.specs.Header.{OPTION-START, OPTION-LENGTH, OPTION-FIELDS}
 
 -- a call of `kdr_read` with lent numbers came out right: what it answers, and what the numbers are then
 pub data ReadRight (side : ℕ) (bytes lent : List ℕ) : Answered → List ℕ → Type 0 where
@@ -45,8 +46,8 @@ pub data OptionRight (bytes lent : List ℕ) : Option Pair → Answered → List
   -- "10 where there is one and fewer than three numbers are lent"
   no-room : (p : Pair) → length lent < OPTION-FIELDS → OptionRight bytes lent (some p) (Answered.refusal 10) lent
   -- "The answer is 1, and `fields` gets three numbers"
-  told : (p : Pair) (f : List ℕ) → OPTION-FIELDS ≤ length lent → pairTold bytes f ≡ p → drop OPTION-FIELDS f ≡ drop OPTION-FIELDS lent
-      → OptionRight bytes lent (some p) (Answered.count 1) f
+  told : (p : Pair) (f : List ℕ) → OPTION-FIELDS ≤ length lent → pairTold bytes f ≡ p → Inside bytes (f at OPTION-START) (f at OPTION-LENGTH)
+      → drop OPTION-FIELDS f ≡ drop OPTION-FIELDS lent → OptionRight bytes lent (some p) (Answered.count 1) f
 
 -- that of option k of those that stand at a start, by its contract
 abbrev pub OptionCalled : List ℕ → ℕ → ℕ → ℕ → List ℕ → Option Pair → Type 0
@@ -70,8 +71,8 @@ pub record SednaCalls : Type 0 where
   -- `kdr_read`, for any side's number, bytes and lent numbers
   pub read : (side : ℕ) (bytes lent : List ℕ) → IsBytes bytes
       → ReadRight side bytes lent (answered (readCode (sideReading side bytes) (length lent))) (fieldsLeft (sideReading side bytes) lent)
-  -- `kdr_option`, for any arguments: it hands out the option that stands there
-  pub option : (bytes : List ℕ) (start length′ k : ℕ) (lent : List ℕ)
+  -- `kdr_option`, for any arguments: what `optionAt` finds there. Of a message that was read, see `options`
+  pub option : (bytes : List ℕ) → IsBytes bytes → (start length′ k : ℕ) (lent : List ℕ)
       → OptionCalled bytes start length′ k lent (optionIn bytes (optionAt k start (slice bytes start length′)))
   -- of a SetOptions with ps that `kdr_read` told: COUNT is how many there are, and by its START_1 and LENGTH_1 `kdr_option` hands out the k-th of ps
   pub options : (side : ℕ) (bytes f : List ℕ) → IsBytes bytes → FIELDS ≤ length f
