@@ -72,6 +72,25 @@ judgement-capped i sh ok m c room = by (ltb m 10241) refl
         let h : 10241 ≤ m = ltb-false _ _ e in
         judgement-long i sh ok (min 10241 m + c) (m + c) room (omega arith) (omega arith)
 
+-- a head that was begun for a capped length is begun for the length
+pub begun-capped : (d e : List ℕ) (i : ℕ) (sh : Shape) (ok : Bool) (m k room : ℕ) (w : Written) → m ≡ min 10241 k
+    → (w ≡ judgement i sh ok m room) × (Fits m room w × (e ≡ headed d i m w)) → (w ≡ judgement i sh ok k room) × (Fits k room w × (e ≡ headed d i k w))
+begun-capped d e i sh ok m k room w c begun = by (ltb k 10241) refl w begun
+  where
+    by : (b : Bool) → ltb k 10241 ≡ b → (w : Written) → (w ≡ judgement i sh ok m room) × (Fits m room w × (e ≡ headed d i m w))
+        → (w ≡ judgement i sh ok k room) × (Fits k room w × (e ≡ headed d i k w))
+    by true t w begun =
+        let h : k < 10241 = ltb-true _ _ t in
+        let g : m ≡ k = omega arith in
+        rw (← g) begun
+    by false t (Refused r) begun =
+        let h : 10241 ≤ k = ltb-false _ _ t in
+        (begun .0 ∙ judgement-long i sh ok m k room (omega arith) (omega arith), (tt, begun .1 .1))
+    by false t (Bytes n) begun =
+        let h : 10241 ≤ k = ltb-false _ _ t in
+        let f = begun .1 .0 in
+        absurd (omega arith)
+
 -- values that are not allowed are refused whatever the length, and only allowed ones are written
 pub judgement-false : (i : ℕ) (sh : Shape) (x y room : ℕ) → judgement i sh false x room ≡ judgement i sh false y room
 unfolding judgement

@@ -55,6 +55,38 @@ fn begin(out: &mut [u8], instruction: u32, shape: Shape, allowed: bool, n: usize
     }
 }
 
+// a + b, or 10,241 where that is more: enough to judge a body's length, and no sum of it wraps.
+fn capped(a: usize, b: usize) -> usize
+    ensures { λ r. ⌜ r ≡ min 10241 (a + b) ⌝ }
+{
+    if 10240 < a {
+        return 10241;
+    }
+    if 10240 < b {
+        return 10241;
+    }
+    if 10240 < a + b {
+        return 10241;
+    }
+    a + b
+}
+
+// The same for a body of a text of n bytes and `more` besides. The text is held against 10,240 before
+// anything is added, so that no length, even one that no slice has, wraps round to a short body.
+fn begin_text(
+    out: &mut [u8],
+    instruction: u32,
+    shape: Shape,
+    allowed: bool,
+    n: usize,
+    more: usize,
+) -> Written
+    ensures { λ r. ⌜ (r ≡ judgement instruction shape allowed (n + more) (length (now (out .entry))))
+        × (Fits (n + more) (length (now (out .entry))) r × (now (out .exit) ≡ headed (now (out .entry)) instruction (n + more) r)) ⌝ }
+{
+    begin(out, instruction, shape, allowed, capped(n, more))
+}
+
 fn put_string(out: &mut [u8], at: usize, text: &[u8])
     requires { ⌜ (at + 5 + length (now text) ≤ length (now out)) × (length (now text) ≤ 10240) ⌝ }
     ensures { λ _. ⌜ now (out .exit) ≡ placed (now (out .entry)) at (string (now (text .entry))) ⌝ }
@@ -75,7 +107,7 @@ pub fn write_empty(out: &mut [u8], instruction: u32) -> Written
 pub fn write_text(out: &mut [u8], instruction: u32, text: &[u8]) -> Written
     ensures { λ r. ⌜ (r ≡ written (length (now (out .entry))) (message instruction (Body.text (now (text .entry))))) × (now (out .exit) ≡ left (now (out .entry)) (message instruction (Body.text (now (text .entry)))) r) ⌝ }
 {
-    let w = begin(out, instruction, Shape::Text, true, text.len() + 5);
+    let w = begin_text(out, instruction, Shape::Text, true, text.len(), 5);
     match w {
         Written::Refused(r) => Written::Refused(r),
         Written::Bytes(k) => {
@@ -90,7 +122,7 @@ pub fn write_statement(out: &mut [u8], instruction: u32, format: u8, text: &[u8]
     ensures { λ r. ⌜ (r ≡ written (length (now (out .entry))) (message instruction (Body.statement format (now (text .entry))))) × (now (out .exit) ≡ left (now (out .entry)) (message instruction (Body.statement format (now (text .entry)))) r) ⌝ }
 {
     let allowed = sedna::format_allowed(format);
-    let w = begin(out, instruction, Shape::Statement, allowed, text.len() + 6);
+    let w = begin_text(out, instruction, Shape::Statement, allowed, text.len(), 6);
     match w {
         Written::Refused(r) => Written::Refused(r),
         Written::Bytes(k) => {
@@ -105,7 +137,7 @@ pub fn write_statement(out: &mut [u8], instruction: u32, format: u8, text: &[u8]
 pub fn write_coded(out: &mut [u8], instruction: u32, code: u32, text: &[u8]) -> Written
     ensures { λ r. ⌜ (r ≡ written (length (now (out .entry))) (message instruction (Body.coded code (now (text .entry))))) × (now (out .exit) ≡ left (now (out .entry)) (message instruction (Body.coded code (now (text .entry)))) r) ⌝ }
 {
-    let w = begin(out, instruction, Shape::Coded, true, text.len() + 9);
+    let w = begin_text(out, instruction, Shape::Coded, true, text.len(), 9);
     match w {
         Written::Refused(r) => Written::Refused(r),
         Written::Bytes(k) => {
@@ -114,22 +146,6 @@ pub fn write_coded(out: &mut [u8], instruction: u32, code: u32, text: &[u8]) -> 
             Written::Bytes(k)
         }
     }
-}
-
-// a + b, or 10,241 where that is more: enough to judge a body's length, and no sum of it wraps.
-fn capped(a: usize, b: usize) -> usize
-    ensures { λ r. ⌜ r ≡ min 10241 (a + b) ⌝ }
-{
-    if 10240 < a {
-        return 10241;
-    }
-    if 10240 < b {
-        return 10241;
-    }
-    if 10240 < a + b {
-        return 10241;
-    }
-    a + b
 }
 
 // A message whose body is a version and two names.
@@ -163,7 +179,7 @@ pub fn write_item(out: &mut [u8], instruction: u32, class: u8, kind: u8, part: &
     ensures { λ r. ⌜ (r ≡ written (length (now (out .entry))) (message instruction (Body.item class kind Url.absent (now (part .entry))))) × (now (out .exit) ≡ left (now (out .entry)) (message instruction (Body.item class kind Url.absent (now (part .entry)))) r) ⌝ }
 {
     let allowed = sedna::item_allowed(class, kind);
-    let w = begin(out, instruction, Shape::Item, allowed, part.len() + 8);
+    let w = begin_text(out, instruction, Shape::Item, allowed, part.len(), 8);
     match w {
         Written::Refused(r) => Written::Refused(r),
         Written::Bytes(k) => {

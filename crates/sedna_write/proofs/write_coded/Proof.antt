@@ -13,11 +13,8 @@ use borrow.Author.Needs.{needs}
 use Rattle.sedna_write.proofs.write_coded.Statement.{statement}
 use Rattle.sedna_write.proofs.write_coded.Tie as tie
 
-add-begin : tie.Need-add-begin
-add-begin c = search needs
-
-begin-requires : tie.Need-begin-requires
-begin-requires c κs = search needs
+begin-text-requires : tie.Need-begin-text-requires
+begin-text-requires c κs = search needs
 
 enum-known-w : tie.Need-enum-known-w
 enum-known-w c = search needs
@@ -29,31 +26,30 @@ put-int-requires : tie.Need-put-int-requires
 put-int-requires c κs = search needs
 
 put-string-requires : tie.Need-put-string-requires
-put-string-requires c κs = let f = subst (Fits (length (c .before .before .before .before .before .before .before .before .before .before .before .before .before .before .args .text .now) + 9) (length (c .before .before .before .before .before .before .before .before .before .before .before .before .before .before .args .out .now))) (c .before .before .before .before .before .before .w2 .given .1) (c .before .before .before .before .before .before .before .before .before .before .begin .ensures .1 .0) in (omega arith, omega arith)
+put-string-requires c κs = let f = subst (Fits (length (c .before .before .before .before .before .before .before .before .before .before .before .before .before .before .args .text .now) + 9) (length (c .before .before .before .before .before .before .before .before .before .before .before .before .before .before .args .out .now))) (c .before .before .before .before .before .before .w2 .given .1) (c .before .before .before .before .before .before .before .before .before .before .begin-text .ensures .1 .0) in (omega arith, omega arith)
 
 same-length : tie.Need-same-length
 same-length c = search needs
 
 returns : tie.Need-returns
 unfolding allowed
-returns c = (sym (c .before .w .given .1) ∙ c .before .before .before .before .before .begin .ensures .0 ∙ written-counted (length (c .before .before .before .before .before .before .before .before .before .args .out .now)) (message (c .before .before .before .before .before .before .before .before .before .args .instruction) (Body.coded (c .before .before .before .before .before .before .before .before .before .args .code) (c .before .before .before .before .before .before .before .before .before .args .text .now))) (length (c .before .before .before .before .before .before .before .before .before .args .text .now) + 9) (coded-counted (c .before .before .before .before .before .before .before .before .before .args .code) (c .before .before .before .before .before .before .before .before .before .args .text .now)), c .before .before .before .before .before .begin .ensures .1 .1 ∙ ap (headed (c .before .before .before .before .before .before .before .before .before .args .out .now) (c .before .before .before .before .before .before .before .before .before .args .instruction) (length (c .before .before .before .before .before .before .before .before .before .args .text .now) + 9)) (c .before .w .given .1))
+returns c = (sym (c .before .w .given .1) ∙ c .before .before .before .before .before .begin-text .ensures .0 ∙ written-counted (length (c .before .before .before .before .before .before .before .before .before .args .out .now)) (message (c .before .before .before .before .before .before .before .before .before .args .instruction) (Body.coded (c .before .before .before .before .before .before .before .before .before .args .code) (c .before .before .before .before .before .before .before .before .before .args .text .now))) (length (c .before .before .before .before .before .before .before .before .before .args .text .now) + 9) (coded-counted (c .before .before .before .before .before .before .before .before .before .args .code) (c .before .before .before .before .before .before .before .before .before .args .text .now)), c .before .before .before .before .before .begin-text .ensures .1 .1 ∙ ap (headed (c .before .before .before .before .before .before .before .before .before .args .out .now) (c .before .before .before .before .before .before .before .before .before .args .instruction) (length (c .before .before .before .before .before .before .before .before .before .args .text .now) + 9)) (c .before .w .given .1))
 
 same-length-2 : tie.Need-same-length-2
 same-length-2 c = search needs
 
 returns-2 : tie.Need-returns-2
 unfolding allowed bodyBytes string int
-returns-2 c = let f = subst (Fits (length (c .before .before .before .before .before .before .before .before .before .before .before .before .before .before .before .before .before .args .text .now) + 9) (length (c .before .before .before .before .before .before .before .before .before .before .before .before .before .before .before .before .before .args .out .now))) (c .before .before .before .before .before .before .before .before .before .w2 .given .1) (c .before .before .before .before .before .before .before .before .before .before .before .before .before .begin .ensures .1 .0) in
-    let z = body-ahead (c .before .before .before .before .before .before .before .before .before .before .before .before .before .before .before .before .before .args .out .now) (message (c .before .before .before .before .before .before .before .before .before .before .before .before .before .before .before .before .before .args .instruction) (Body.coded (c .before .before .before .before .before .before .before .before .before .before .before .before .before .before .before .before .before .args .code) (c .before .before .before .before .before .before .before .before .before .before .before .before .before .before .before .before .before .args .text .now))) (length (c .before .before .before .before .before .before .before .before .before .before .before .before .before .before .before .before .before .args .text .now) + 9) (coded-counted (c .before .before .before .before .before .before .before .before .before .before .before .before .before .before .before .before .before .args .code) (c .before .before .before .before .before .before .before .before .before .before .before .before .before .before .before .before .before .args .text .now)) _ _ f (c .before .before .before .before .before .before .before .before .before .before .before .before .before .begin .ensures .1 .1 ∙ ap (headed (c .before .before .before .before .before .before .before .before .before .before .before .before .before .before .before .before .before .args .out .now) (c .before .before .before .before .before .before .before .before .before .before .before .before .before .before .before .before .before .args .instruction) (length (c .before .before .before .before .before .before .before .before .before .before .before .before .before .before .before .before .before .args .text .now) + 9)) (c .before .before .before .before .before .before .before .before .before .w2 .given .1)) in
+returns-2 c = let f = subst (Fits (length (c .before .before .before .before .before .before .before .before .before .before .before .before .before .before .before .before .before .args .text .now) + 9) (length (c .before .before .before .before .before .before .before .before .before .before .before .before .before .before .before .before .before .args .out .now))) (c .before .before .before .before .before .before .before .before .before .w2 .given .1) (c .before .before .before .before .before .before .before .before .before .before .before .before .before .begin-text .ensures .1 .0) in
+    let z = body-ahead (c .before .before .before .before .before .before .before .before .before .before .before .before .before .before .before .before .before .args .out .now) (message (c .before .before .before .before .before .before .before .before .before .before .before .before .before .before .before .before .before .args .instruction) (Body.coded (c .before .before .before .before .before .before .before .before .before .before .before .before .before .before .before .before .before .args .code) (c .before .before .before .before .before .before .before .before .before .before .before .before .before .before .before .before .before .args .text .now))) (length (c .before .before .before .before .before .before .before .before .before .before .before .before .before .before .before .before .before .args .text .now) + 9) (coded-counted (c .before .before .before .before .before .before .before .before .before .before .before .before .before .before .before .before .before .args .code) (c .before .before .before .before .before .before .before .before .before .before .before .before .before .before .before .before .before .args .text .now)) _ _ f (c .before .before .before .before .before .before .before .before .before .before .before .before .before .begin-text .ensures .1 .1 ∙ ap (headed (c .before .before .before .before .before .before .before .before .before .before .before .before .before .before .before .before .before .args .out .now) (c .before .before .before .before .before .before .before .before .before .before .before .before .before .before .before .before .before .args .instruction) (length (c .before .before .before .before .before .before .before .before .before .before .before .before .before .before .before .before .before .args .text .now) + 9)) (c .before .before .before .before .before .before .before .before .before .w2 .given .1)) in
     let z0 = step (int (c .before .before .before .before .before .before .before .before .before .before .before .before .before .before .before .before .before .args .code)) (12) z (c .before .before .before .before .before .before .put-int .ensures) (omega arith) in
-    (sym (c .before .before .before .before .before .before .before .before .before .w2 .given .1) ∙ c .before .before .before .before .before .before .before .before .before .before .before .before .before .begin .ensures .0 ∙ written-counted (length (c .before .before .before .before .before .before .before .before .before .before .before .before .before .before .before .before .before .args .out .now)) (message (c .before .before .before .before .before .before .before .before .before .before .before .before .before .before .before .before .before .args .instruction) (Body.coded (c .before .before .before .before .before .before .before .before .before .before .before .before .before .before .before .before .before .args .code) (c .before .before .before .before .before .before .before .before .before .before .before .before .before .before .before .before .before .args .text .now))) (length (c .before .before .before .before .before .before .before .before .before .before .before .before .before .before .before .before .before .args .text .now) + 9) (coded-counted (c .before .before .before .before .before .before .before .before .before .before .before .before .before .before .before .before .before .args .code) (c .before .before .before .before .before .before .before .before .before .before .before .before .before .before .before .before .before .args .text .now)), last z0 (c .before .before .put-string .ensures))
+    (sym (c .before .before .before .before .before .before .before .before .before .w2 .given .1) ∙ c .before .before .before .before .before .before .before .before .before .before .before .before .before .begin-text .ensures .0 ∙ written-counted (length (c .before .before .before .before .before .before .before .before .before .before .before .before .before .before .before .before .before .args .out .now)) (message (c .before .before .before .before .before .before .before .before .before .before .before .before .before .before .before .before .before .args .instruction) (Body.coded (c .before .before .before .before .before .before .before .before .before .before .before .before .before .before .before .before .before .args .code) (c .before .before .before .before .before .before .before .before .before .before .before .before .before .before .before .before .before .args .text .now))) (length (c .before .before .before .before .before .before .before .before .before .before .before .before .before .before .before .before .before .args .text .now) + 9) (coded-counted (c .before .before .before .before .before .before .before .before .before .before .before .before .before .before .before .before .before .args .code) (c .before .before .before .before .before .before .before .before .before .before .before .before .before .before .before .before .before .args .text .now)), last z0 (c .before .before .put-string .ensures))
 
 pub write-coded-spec : {M : Type 1} → statement M
 write-coded-spec =
     tie.close
     (tie.spec
-    add-begin
-    begin-requires
+    begin-text-requires
     enum-known-w
     enum-known-w-2
     put-int-requires

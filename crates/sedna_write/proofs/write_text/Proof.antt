@@ -13,11 +13,8 @@ use borrow.Author.Needs.{needs}
 use Rattle.sedna_write.proofs.write_text.Statement.{statement}
 use Rattle.sedna_write.proofs.write_text.Tie as tie
 
-add-begin : tie.Need-add-begin
-add-begin c = search needs
-
-begin-requires : tie.Need-begin-requires
-begin-requires c κs = search needs
+begin-text-requires : tie.Need-begin-text-requires
+begin-text-requires c κs = search needs
 
 enum-known-w : tie.Need-enum-known-w
 enum-known-w c = search needs
@@ -26,30 +23,29 @@ enum-known-w-2 : tie.Need-enum-known-w-2
 enum-known-w-2 c = search needs
 
 put-string-requires : tie.Need-put-string-requires
-put-string-requires c κs = let f = subst (Fits (length (c .before .before .before .before .before .before .before .before .before .before .args .text .now) + 5) (length (c .before .before .before .before .before .before .before .before .before .before .args .out .now))) (c .before .before .w2 .given .1) (c .before .before .before .before .before .before .begin .ensures .1 .0) in (omega arith, omega arith)
+put-string-requires c κs = let f = subst (Fits (length (c .before .before .before .before .before .before .before .before .before .before .args .text .now) + 5) (length (c .before .before .before .before .before .before .before .before .before .before .args .out .now))) (c .before .before .w2 .given .1) (c .before .before .before .before .before .before .begin-text .ensures .1 .0) in (omega arith, omega arith)
 
 same-length : tie.Need-same-length
 same-length c = search needs
 
 returns : tie.Need-returns
 unfolding allowed
-returns c = (sym (c .before .w .given .1) ∙ c .before .before .before .before .before .begin .ensures .0 ∙ written-counted (length (c .before .before .before .before .before .before .before .before .before .args .out .now)) (message (c .before .before .before .before .before .before .before .before .before .args .instruction) (Body.text (c .before .before .before .before .before .before .before .before .before .args .text .now))) (length (c .before .before .before .before .before .before .before .before .before .args .text .now) + 5) (text-counted (c .before .before .before .before .before .before .before .before .before .args .text .now)), c .before .before .before .before .before .begin .ensures .1 .1 ∙ ap (headed (c .before .before .before .before .before .before .before .before .before .args .out .now) (c .before .before .before .before .before .before .before .before .before .args .instruction) (length (c .before .before .before .before .before .before .before .before .before .args .text .now) + 5)) (c .before .w .given .1))
+returns c = (sym (c .before .w .given .1) ∙ c .before .before .before .before .before .begin-text .ensures .0 ∙ written-counted (length (c .before .before .before .before .before .before .before .before .before .args .out .now)) (message (c .before .before .before .before .before .before .before .before .before .args .instruction) (Body.text (c .before .before .before .before .before .before .before .before .before .args .text .now))) (length (c .before .before .before .before .before .before .before .before .before .args .text .now) + 5) (text-counted (c .before .before .before .before .before .before .before .before .before .args .text .now)), c .before .before .before .before .before .begin-text .ensures .1 .1 ∙ ap (headed (c .before .before .before .before .before .before .before .before .before .args .out .now) (c .before .before .before .before .before .before .before .before .before .args .instruction) (length (c .before .before .before .before .before .before .before .before .before .args .text .now) + 5)) (c .before .w .given .1))
 
 same-length-2 : tie.Need-same-length-2
 same-length-2 c = search needs
 
 returns-2 : tie.Need-returns-2
 unfolding allowed bodyBytes string int
-returns-2 c = let f = subst (Fits (length (c .before .before .before .before .before .before .before .before .before .before .before .before .before .args .text .now) + 5) (length (c .before .before .before .before .before .before .before .before .before .before .before .before .before .args .out .now))) (c .before .before .before .before .before .w2 .given .1) (c .before .before .before .before .before .before .before .before .before .begin .ensures .1 .0) in
-    let z = body-ahead (c .before .before .before .before .before .before .before .before .before .before .before .before .before .args .out .now) (message (c .before .before .before .before .before .before .before .before .before .before .before .before .before .args .instruction) (Body.text (c .before .before .before .before .before .before .before .before .before .before .before .before .before .args .text .now))) (length (c .before .before .before .before .before .before .before .before .before .before .before .before .before .args .text .now) + 5) (text-counted (c .before .before .before .before .before .before .before .before .before .before .before .before .before .args .text .now)) _ _ f (c .before .before .before .before .before .before .before .before .before .begin .ensures .1 .1 ∙ ap (headed (c .before .before .before .before .before .before .before .before .before .before .before .before .before .args .out .now) (c .before .before .before .before .before .before .before .before .before .before .before .before .before .args .instruction) (length (c .before .before .before .before .before .before .before .before .before .before .before .before .before .args .text .now) + 5)) (c .before .before .before .before .before .w2 .given .1)) in
-    (sym (c .before .before .before .before .before .w2 .given .1) ∙ c .before .before .before .before .before .before .before .before .before .begin .ensures .0 ∙ written-counted (length (c .before .before .before .before .before .before .before .before .before .before .before .before .before .args .out .now)) (message (c .before .before .before .before .before .before .before .before .before .before .before .before .before .args .instruction) (Body.text (c .before .before .before .before .before .before .before .before .before .before .before .before .before .args .text .now))) (length (c .before .before .before .before .before .before .before .before .before .before .before .before .before .args .text .now) + 5) (text-counted (c .before .before .before .before .before .before .before .before .before .before .before .before .before .args .text .now)), last z (c .before .before .put-string .ensures))
+returns-2 c = let f = subst (Fits (length (c .before .before .before .before .before .before .before .before .before .before .before .before .before .args .text .now) + 5) (length (c .before .before .before .before .before .before .before .before .before .before .before .before .before .args .out .now))) (c .before .before .before .before .before .w2 .given .1) (c .before .before .before .before .before .before .before .before .before .begin-text .ensures .1 .0) in
+    let z = body-ahead (c .before .before .before .before .before .before .before .before .before .before .before .before .before .args .out .now) (message (c .before .before .before .before .before .before .before .before .before .before .before .before .before .args .instruction) (Body.text (c .before .before .before .before .before .before .before .before .before .before .before .before .before .args .text .now))) (length (c .before .before .before .before .before .before .before .before .before .before .before .before .before .args .text .now) + 5) (text-counted (c .before .before .before .before .before .before .before .before .before .before .before .before .before .args .text .now)) _ _ f (c .before .before .before .before .before .before .before .before .before .begin-text .ensures .1 .1 ∙ ap (headed (c .before .before .before .before .before .before .before .before .before .before .before .before .before .args .out .now) (c .before .before .before .before .before .before .before .before .before .before .before .before .before .args .instruction) (length (c .before .before .before .before .before .before .before .before .before .before .before .before .before .args .text .now) + 5)) (c .before .before .before .before .before .w2 .given .1)) in
+    (sym (c .before .before .before .before .before .w2 .given .1) ∙ c .before .before .before .before .before .before .before .before .before .begin-text .ensures .0 ∙ written-counted (length (c .before .before .before .before .before .before .before .before .before .before .before .before .before .args .out .now)) (message (c .before .before .before .before .before .before .before .before .before .before .before .before .before .args .instruction) (Body.text (c .before .before .before .before .before .before .before .before .before .before .before .before .before .args .text .now))) (length (c .before .before .before .before .before .before .before .before .before .before .before .before .before .args .text .now) + 5) (text-counted (c .before .before .before .before .before .before .before .before .before .before .before .before .before .args .text .now)), last z (c .before .before .put-string .ensures))
 
 pub write-text-spec : {M : Type 1} → statement M
 write-text-spec =
     tie.close
     (tie.spec
-    add-begin
-    begin-requires
+    begin-text-requires
     enum-known-w
     enum-known-w-2
     put-string-requires
