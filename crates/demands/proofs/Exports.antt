@@ -21,14 +21,17 @@ use Rattle.sedna_exact.proofs.Exact.{exact}
 use Rattle.grammar.specs.Conversation.{Whole}
 use Rattle.session.specs.declared.Session.{Session}
 use Rattle.session.specs.declared.Stepped.{Stepped}
-use Rattle.session.specs.Step.{freshSession, Outcome, outcome, told, stepped, closedOf}
+use Rattle.session.specs.declared.Turn.{Turn}
+use Rattle.session.specs.declared.Turn.the-variants.{Of, Over}
+use Rattle.session.specs.Step.{freshSession, Outcome, outcome, told, stepped, closedOf, turnOf}
 use Rattle.session_exact.proofs.Follows.{Follows, fresh-follows, begins, whole-closed, Settled, settles, taken, nine}
 use Rattle.session_exact.proofs.Published.{published-sent}
+use Rattle.session_exact.proofs.Turn.{sideOf, turn-exact}
 use Rattle.sedna_c.specs.Codes.{readCode, fieldsLeft}
-use Rattle.sedna_c.specs.Sessions.{recordIn, recordPut, sideStepped, kept}
+use Rattle.sedna_c.specs.Sessions.{recordIn, recordPut, sideStepped, kept, turnNumber}
 use Rattle.demands.specs.Answered.{Answered, answered}
-use Rattle.demands.specs.Exports.{Call, Called, called, Why, Right, Closes, After, Demand3Exports}
-use Rattle.demands.specs.Header.{SideOf, client, server}
+use Rattle.demands.specs.Exports.{Call, Called, called, Why, Right, Closes, Turns, After, Demand3Exports}
+use Rattle.demands.specs.Header.{SideOf, client, server, TurnOf}
 use Rattle.demands.proofs.SednaCalls.{Sides, sides, is-client, is-server}
 use Rattle.demands.proofs.Tells as tells
 use Rattle.demands.proofs.Tells.{counted, read-count, behind}
@@ -118,8 +121,16 @@ closes before d two i = by (closedOf (recordIn d)) refl
         let no : Whole before → ⊥ = λ w. apart (let z : true ≡ false = sym (whole w) ∙ e in cc) in
         record { over = rw (le-ltb (length d) 2 two, e) (λ z. absurd (omega (arith, z)), λ w. absurd (no w)); goes-on = rw (le-ltb (length d) 2 two, e) (λ _. no, λ _. refl) }
 
+turns : (before : List Message) (d : List ℕ) → 2 ≤ length d → Follows before (recordIn d) → Turns before d
+turns before d two i = record { turn = sideOf (turnOf (recordIn d)); told = rw (le-ltb (length d) 2 two) (number (turnOf (recordIn d))); has = turn-exact i }
+  where
+    number : (t : Turn) → TurnOf (turnNumber t) (sideOf t)
+    number (Of Client) = TurnOf.somebody client
+    number (Of Server) = TurnOf.somebody server
+    number Over = TurnOf.nobody
+
 after : (calls : List Call) (before : List Message) (d : List ℕ) → 2 ≤ length d → Follows before (recordIn d) → After before d calls
-after [] before d two i = (begins i, closes before d two i)
+after [] before d two i = (begins i, closes before d two i, turns before d two i)
 after (c ∷ calls) before d two i =
     let g = goes before d two c i in
     (g .accepted, g .right, after calls (before ++ g .accepted) (called d c .session) (g .still) (g .follows))
@@ -128,5 +139,5 @@ pub demand-3-exports : Demand3Exports
 demand-3-exports = record {
   after-any-calls = λ d two calls. rw (le-ltb (length d) 2 two) (after calls [] (recordPut freshSession d) (omega arith) fresh-follows);
   fresh = λ d two. rw (le-ltb (length d) 2 two) (counted 0 (omega arith), refl);
-  no-record = λ d short c. rw (lt-ltb (length d) 2 short) (tells.refused NoRoom, refl, ap (λ (x : Answered). record { answer = x; session = d; fields = c .fields }) (tells.refused NoRoom), refl);
+  no-record = λ d short c. rw (lt-ltb (length d) 2 short) (tells.refused NoRoom, refl, ap (λ (x : Answered). record { answer = x; session = d; fields = c .fields }) (tells.refused NoRoom), refl, refl);
 }

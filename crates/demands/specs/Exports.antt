@@ -1,7 +1,8 @@
--- Demand 3, drawn for the calls by which programs in C and Rust reach the session: `kdr_fresh`, `kdr_step` and `kdr_closed`, over any list of calls on the
--- bytes that the caller keeps. What they answer and tell is turned back into what it means by the header's names.
+-- Demand 3, drawn for the calls by which programs in C and Rust reach the session: `kdr_fresh`, `kdr_step`, `kdr_closed` and `kdr_turn`, over any list of
+-- calls on the bytes that the caller keeps. What they answer and tell is turned back into what it means by the header's names.
 use mathlib.Core.List.{List, [], _∷_, _++_}
 use mathlib.Core.Logic.{_↔_}
+use mathlib.Core.Option.{Option}
 use mathlib.Core.Path.{_≡_}
 use Prim.Native.Nat.{ℕ, _≤_, _<_}
 use lib.ListN.{length, drop}
@@ -12,9 +13,10 @@ use Rattle.sedna.specs.declared.Side.{Side}
 use Rattle.sedna.specs.Message.{Message}
 use Rattle.sedna_read.specs.Reading.{Answer, reading}
 use Rattle.grammar.specs.Conversation.{Whole, Begins}
-use Rattle.sedna_c.specs.Sessions.{freshCode, freshLeft, stepCode, stepLeft, stepFields, closedCode}
+use Rattle.grammar.specs.Turn.{HasTurn}
+use Rattle.sedna_c.specs.Sessions.{freshCode, freshLeft, stepCode, stepLeft, stepFields, closedCode, turnCode}
 use Rattle.demands.specs.Answered.{Answered, answered}
-use Rattle.demands.specs.Header.{SideOf, FIELDS, SESSION-BYTES, Tells}
+use Rattle.demands.specs.Header.{SideOf, TurnOf, FIELDS, SESSION-BYTES, Tells}
 
 -- a call of `kdr_step`: a side's number, bytes, and the numbers that are lent for the fields
 pub record Call : Type 0 where
@@ -67,9 +69,15 @@ pub record Closes (before : List Message) (d : List ℕ) : Type 0 where
   pub over : (closedCode d ≡ 1) ↔ Whole before
   pub goes-on : (closedCode d ≡ 0) ↔ (¬ Whole before)
 
+-- `kdr_turn` answers the side that has the turn behind the accepted messages
+pub record Turns (before : List Message) (d : List ℕ) : Type 0 where
+  pub turn : Option Side
+  pub told : TurnOf (turnCode d) turn
+  pub has : HasTurn before turn
+
 -- each of a list of calls, one after another, came out right; and after them the accepted messages begin a conversation
 abbrev pub After : List Message → List ℕ → List Call → Type 0
-After before d [] = Begins before × Closes before d
+After before d [] = Begins before × Closes before d × Turns before d
 After before d (c ∷ calls) = (ms : List Message) × Right before d c (called d c) ms × After (before ++ ms) (called d c .session) calls
 
 pub record Demand3Exports : Type 0 where
@@ -78,6 +86,7 @@ pub record Demand3Exports : Type 0 where
   -- which answers 0, and leaves the bytes behind those two
   pub fresh : (d : List ℕ) → SESSION-BYTES ≤ length d
       → (answered (freshCode d) ≡ Answered.count 0) × (drop SESSION-BYTES (freshLeft d) ≡ drop SESSION-BYTES d)
-  -- with fewer, `kdr_fresh` and `kdr_step` refuse with 10, and leave everything as it was; and `kdr_closed` answers 0
+  -- with fewer, `kdr_fresh` and `kdr_step` refuse with 10, and leave everything as it was; and `kdr_closed` and `kdr_turn` answer 0
   pub no-record : (d : List ℕ) → length d < SESSION-BYTES → (c : Call)
       → (answered (freshCode d) ≡ Answered.refusal 10) × (freshLeft d ≡ d) × (called d c ≡ unchanged 10 d c) × (closedCode d ≡ 0)
+      × (turnCode d ≡ 0)

@@ -1,6 +1,7 @@
 -- What the numbers mean that the exported Sedna calls take and tell: the names and the table of bindings/c/keddorimp.h. A name is the header's without its
 -- KDR_, with - for _.
 use mathlib.Core.List.{List, [], _∷_}
+use mathlib.Core.Option.{Option, none, some}
 use mathlib.Core.Path.{_≡_}
 use Prim.Native.Nat.{ℕ, zero, suc, _+_, _≤_}
 use lib.ListN.{length, getD, take, drop}
@@ -37,6 +38,11 @@ upTo (suc n) f = f 0 ∷ upTo n (λ k. f (suc k))
 pub data SideOf : ℕ → Side → Type 0 where
   client : SideOf 1 Client
   server : SideOf 2 Server
+
+-- the same with KDR_NOBODY
+pub data TurnOf : ℕ → Option Side → Type 0 where
+  nobody : TurnOf 0 none
+  somebody : {k : ℕ} {side : Side} → SideOf k side → TurnOf k (some side)
 
 -- enum kdr_field
 abbrev pub INSTRUCTION : ℕ

@@ -14,9 +14,11 @@ use Rattle.sedna_read.specs.Places.{located}
 use Rattle.sedna_read.specs.Reading.{reading, lastly}
 use Rattle.session.specs.declared.Session.{Session}
 use Rattle.session.specs.declared.Stepped.{Stepped}
+use Rattle.session.specs.declared.Turn.{Turn}
+use Rattle.session.specs.declared.Turn.the-variants.{Of, Over}
 use Rattle.session.specs.Machine.{refused, next}
 use Rattle.session.specs.Settled.{afterAnswer}
-use Rattle.session.specs.Step.{freshSession, stepped, closedOf}
+use Rattle.session.specs.Step.{freshSession, stepped, closedOf, turnOf}
 use Rattle.sedna_c.specs.declared.sides.Sender.{Sender}
 use Rattle.sedna_c.specs.declared.sides.Sender.the-variants as sender
 use Rattle.sedna_c.specs.Codes.{readCode, fieldsLeft}
@@ -66,6 +68,15 @@ stepLeft d side bytes room =
 -- 1 where a conversation is over, else 0
 abbrev pub closedCode : List ℕ → ℕ
 closedCode d = if (ltb (length d) 2) 0 (if (closedOf (recordIn d)) 1 0)
+
+-- the number of the side that has the turn; 0 where a conversation is over, and where there is no record
+abbrev pub turnNumber : Turn → ℕ
+turnNumber (Of Client) = 1
+turnNumber (Of Server) = 2
+turnNumber Over = 0
+
+abbrev pub turnCode : List ℕ → ℕ
+turnCode d = if (ltb (length d) 2) 0 (turnNumber (turnOf (recordIn d)))
 
 -- what the code goes by: the answer to a message that leads to the phase `to`, and the record behind it
 abbrev pub senderOf : ℕ → Sender

@@ -6,13 +6,15 @@ ghost use lib.ListN.{length};
 ghost use Rattle.wire.specs.Bytes.{if};
 ghost use Rattle.session.specs.Machine.{moveOf};
 ghost use Rattle.sedna_c.specs.Codes.{readCode, fieldsLeft, sideReading};
-ghost use Rattle.sedna_c.specs.Sessions.{recordIn, recordPut, freshCode, freshLeft, senderOf, answerOf, leads, ledTo, stepCode, stepFields, stepLeft, closedCode};
+ghost use Rattle.sedna_c.specs.Sessions.{recordIn, recordPut, freshCode, freshLeft, senderOf, answerOf, leads, ledTo, stepCode, stepFields, stepLeft, closedCode, turnCode, turnNumber};
 use crate::sides::Sender;
 use crate::sides::sender_of;
 use crate::store_places;
 use sedna::Found;
+use sedna::Side;
 use sedna_read::Reading;
 use session::Session;
+use session::Turn;
 use session::machine::next_found;
 use session::phase::REFUSED;
 use wire::Refusal;
@@ -139,4 +141,28 @@ pub extern "C" fn kdr_closed(session: &[u8]) -> u8
     } else {
         0
     }
+}
+
+// A turn as a side's number; 0 where the conversation is over.
+fn turn_number(turn: Turn) -> u8
+    ensures { λ r. ⌜ r ≡ turnNumber turn ⌝ }
+{
+    match turn {
+        Turn::Over => 0,
+        Turn::Of(side) => match side {
+            Side::Client => 1,
+            Side::Server => 2,
+        },
+    }
+}
+
+// Whose turn it is: 1 the client's, 2 the server's, 0 where the conversation is over.
+#[no_mangle]
+pub extern "C" fn kdr_turn(session: &[u8]) -> u8
+    ensures { λ r. ⌜ r ≡ turnCode (now (session .entry)) ⌝ }
+{
+    if session.len() < 2 {
+        return 0;
+    }
+    turn_number(session::whose_turn(record_in(session)))
 }

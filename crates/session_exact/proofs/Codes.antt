@@ -1,12 +1,12 @@
 -- The numbers that the session record has for the places of the grammar.
-use mathlib.Core.Bool.{false}
-use mathlib.Core.List.{[], _∷_}
+use mathlib.Core.Bool.{Bool, true, false}
+use mathlib.Core.List.{List, [], _∷_}
 use mathlib.Core.Path.{_≡_, refl, sym, _∙_, ap}
-use Prim.Native.Nat.{ℕ}
+use Prim.Native.Nat.{ℕ, _≤_}
 use native.Mathlib.Omega.{arith}
-use lib.Dec.{eqb}
-use lib.ListN.{getD}
-use borrow.Author.Tests.{ne-eqb}
+use lib.Dec.{eqb, ltb}
+use lib.ListN.{getD, List·getD-eq-default}
+use borrow.Author.Tests.{ne-eqb, ltb-true, ltb-false}
 use Rattle.grammar.proofs.Phase.{Phase}
 use Rattle.grammar.proofs.Phase as P
 use Rattle.session.specs.Phases as N
@@ -46,12 +46,18 @@ code P.rolling = N.rolling
 code P.loaded = N.loaded
 code P.closed = N.closed
 
+places : List Phase
+places =
+    P.fresh ∷ P.parameters ∷ P.authentication ∷ P.idle-out ∷ P.idle-in ∷ P.sending ∷ P.after-item ∷ P.finished ∷ P.loading ∷ P.portions ∷
+    P.greeted ∷ P.asked ∷ P.time-out ∷ P.set-out ∷ P.reset-out ∷ P.closing-out ∷ P.time-in ∷ P.set-in ∷ P.reset-in ∷ P.closing-in ∷ P.load-failed ∷
+    P.authenticated ∷ P.beginning ∷ P.answering ∷ P.updating ∷ P.delivering ∷ P.in-item ∷ P.trailing ∷ P.committing ∷ P.rolling ∷ P.loaded ∷
+    P.closed ∷ []
+
 decode : ℕ → Phase
-decode n = getD (
-    P.fresh ∷ P.parameters ∷ P.authentication ∷ P.idle-out ∷ P.idle-in ∷ P.sending ∷ P.after-item ∷ P.finished ∷ P.loading ∷ P.portions ∷ P.greeted ∷ P.asked ∷ P.time-out ∷ P.set-out ∷ P.reset-out ∷ P.closing-out ∷ P.time-in ∷ P.set-in ∷ P.reset-in ∷ P.closing-in ∷ P.load-failed ∷ P.authenticated ∷ P.beginning ∷ P.answering ∷ P.updating ∷ P.delivering ∷ P.in-item ∷ P.trailing ∷ P.committing ∷ P.rolling ∷ P.loaded ∷ P.closed ∷ []) n P.closed
+decode n = getD places n P.closed
 
 decode-code : (p : Phase) → decode (code p) ≡ p
-unfolding decode
+unfolding decode places
 decode-code P.fresh = refl
 decode-code P.parameters = refl
 decode-code P.authentication = refl
@@ -86,12 +92,21 @@ decode-code P.loaded = refl
 decode-code P.closed = refl
 
 pub code-closed : (p : Phase) → code p ≡ N.closed → p ≡ P.closed
-unfolding decode
+unfolding decode places
 code-closed p e = sym (decode-code p) ∙ ap decode e
+
+-- behind the server's phases there is no other
+pub code-last : (p : Phase) → N.closed ≤ code p → p ≡ P.closed
+unfolding decode places
+code-last p h = by (ltb 31 (code p)) refl
+  where
+    by : (t : Bool) → ltb 31 (code p) ≡ t → p ≡ P.closed
+    by true e = let l : 32 ≤ code p = ltb-true 31 (code p) e in sym (decode-code p) ∙ List·getD-eq-default places P.closed l
+    by false e = let l : code p ≤ 31 = ltb-false 31 (code p) e in code-closed p (omega arith)
 
 -- no place has the mark of a refused move
 pub code-marks : (p : Phase) → eqb (code p) refused ≡ false
-unfolding decode
+unfolding decode places
 code-marks p = ne-eqb (code p) refused (λ e.
     let q : p ≡ P.closed = sym (decode-code p) ∙ ap decode e in
     let z : N.closed ≡ refused = sym (ap code q) ∙ e in

@@ -4,7 +4,7 @@ use mathlib.Core.List.{List, [], _∷_, _++_, append-assoc, append-nil}
 use mathlib.Core.Logic.{_↔_}
 use mathlib.Core.Option.{Option, none, some, Option·some-injective, Option·none-ne-some}
 use mathlib.Core.Path.{_≡_, refl, sym, _∙_, ap, subst}
-use Prim.Native.Nat.{ℕ}
+use Prim.Native.Nat.{ℕ, _≤_}
 use lib.Dec.{T}
 use borrow.Author.Tests.{eqb-true, eq-eqb}
 use Rattle.wire.specs.declared.Refusal.the-variants.{OutOfOrder}
@@ -25,7 +25,7 @@ use Rattle.session.specs.declared.Session.{Session}
 use Rattle.session.specs.Machine.{next}
 use Rattle.session.specs.Phases as N
 use Rattle.session.specs.Step.{freshSession, Outcome, settled, closedOf}
-use Rattle.session_exact.proofs.Codes.{code, code-closed, code-marks}
+use Rattle.session_exact.proofs.Codes.{code, code-closed, code-last, code-marks}
 use Rattle.session_exact.proofs.Link.{led, mark, next-found}
 
 choose-guard : (w : Bool) (q : Phase) → T w → choose w q none ≡ some q
@@ -137,6 +137,11 @@ whole-closed {acc} {s} i = (there, here)
         by : (t : Rest (i .place) (s .version)) → lay (i .place) (s .version) t ≡ [] → Look (i .place) (s .version) t → closedOf s ≡ true
         by t e (at-end c) = eq-eqb (s .phase) N.closed (i .coded ∙ ap code c)
         by t e (split a) = absurd (no-cons (sym (head-of (i .place) (s .version) t a) ∙ e))
+
+-- behind the server's phases there is only the closed one
+pub last-closed : {acc : List Message} {s : Session} → Follows acc s → N.closed ≤ s .phase → closedOf s ≡ true
+unfolding closedOf
+last-closed {acc} {s} i l = eq-eqb (s .phase) N.closed (i .coded ∙ ap code (code-last (i .place) (subst (λ (n : ℕ). N.closed ≤ n) (i .coded) l)))
 
 -- what becomes of a message that was read: it is taken, and the record follows; or it gets 9, and no conversation goes on with it
 pub data Settled (acc : List Message) (s : Session) (m : Message) (n : ℕ) : Outcome → Type 0 where

@@ -4,3 +4,4 @@ pub mod Kept
 pub mod Link
 pub mod Published
 pub mod Refused
+pub mod Turn

@@ -1,0 +1,25 @@
+-- "Messages alternate by turn": who has the turn behind messages that begin a conversation. No machine is known here.
+use mathlib.Core.List.{List, [], _∷_, _++_}
+use mathlib.Core.Option.{Option, none, some}
+use mathlib.Core.Path.{_≡_}
+use Rattle.sedna.specs.declared.Side.{Side}
+use Rattle.sedna.specs.declared.Side.the-variants.{Client, Server}
+use Rattle.sedna.specs.Message.{Message}
+use Rattle.sedna.specs.Names.{ErrorResponse}
+use Rattle.sedna.specs.Published.{Published}
+use Rattle.grammar.specs.Conversation.{Whole, Begins}
+
+-- a message that the side sends goes on
+pub record GoesOn (before : List Message) (side : Side) : Type 0 where
+  pub next : Message
+  pub published : Published side next
+  pub begins : Begins (before ++ (next ∷ []))
+
+-- the side that has the turn, none where the conversation is over. Each case shuts out the others
+pub data HasTurn (before : List Message) : Option Side → Type 0 where
+  -- a message of the client's goes on; of the server's, ErrorResponse at most: "where the client has the turn (after StartUp) it ends the conversation"
+  client : GoesOn before Client → ((m : Message) → Published Server m → Begins (before ++ (m ∷ [])) → m .instruction ≡ ErrorResponse)
+      → HasTurn before (some Client)
+  -- a message of the server's goes on, and none of the client's
+  server : GoesOn before Server → ¬ GoesOn before Client → HasTurn before (some Server)
+  over : Whole before → HasTurn before none
