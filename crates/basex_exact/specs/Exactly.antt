@@ -30,6 +30,7 @@ use Rattle.basex_request.specs.Reading.{kindOf, textsOf}
 use Rattle.basex_request.specs.Writing as requesting
 use Rattle.basex_response.specs.declared.ItemAt.the-variants as item-at
 use Rattle.basex_response.specs.declared.Replied.the-variants as replied
+use Rattle.basex_response.specs.Errors.{errorAt}
 use Rattle.basex_response.specs.Items as items
 use Rattle.basex_response.specs.Items.{itemTexts, itemAt}
 use Rattle.basex_response.specs.Reading as responses
@@ -256,13 +257,15 @@ errorPart Query = 3
 errorPart Results = 3
 errorPart Full = 3
 
--- the one error string of a response: the last of its strings, and one of the parts that are told
+-- the one error string of a response: the last of its strings, and one of the parts that are told; its place is behind all the others
 pub record OneError (reply : Reply) (r : Response) : Type 0 where
   pub front : List (List ℕ)
   pub error : List ℕ
   pub one : response.errorOf reply r ≡ error ∷ []
   pub last : allTexts r ≡ front ++ (error ∷ [])
   pub told : getD (partsOf r) (errorPart reply) [] ≡ error
+  pub place : errorAt reply (lengthAt (r .texts) 0) (lengthAt (r .texts) 1) (length (flatten (itemTexts (r .items)))) (lengthAt (r .error) 0)
+      ≡ record { start = length (flatten front); len = length error }
 
 -- "with status 01 the last string is the error", and with 00 there is none
 pub record ErrorsExactly : Type 0 where

@@ -3,3 +3,4 @@ pub mod Reading
 pub mod Judging
 pub mod Writing
 pub mod Spelling
+pub mod Errors

@@ -1,10 +1,12 @@
 // Reads and writes the responses of a BaseX server, knowing the request.
+pub use errors::error_at;
 pub use items::item_at;
 pub use read::read_response;
 use wire::Refusal;
 pub use write::write_end;
 pub use write::write_item;
 
+mod errors;
 mod items;
 mod read;
 mod write;
@@ -38,4 +40,10 @@ pub enum Replied {
         read: usize,
     },
     Refused(Refusal),
+}
+
+// Where the error of a response starts in the output that it was read into, and how long it is.
+pub struct ErrorAt {
+    pub start: usize,
+    pub len: usize,
 }

@@ -2,6 +2,7 @@
 pub mod Answers
 pub mod Reading
 pub mod Writing
+pub mod Errors
 pub mod Items
 pub mod Walked
 use mathlib.Core.Path.{refl}
@@ -13,6 +14,7 @@ use Rattle.demands.specs.BaseXCalls.{BaseXCalls}
 use Rattle.demands.proofs.BaseXCalls.Answers.{count-is}
 use Rattle.demands.proofs.BaseXCalls.Reading.{string-at, decode, read-request, read-response}
 use Rattle.demands.proofs.BaseXCalls.Writing.{write-string, write-request, write-item, write-end}
+use Rattle.demands.proofs.BaseXCalls.Errors.{error-due, error, error-told}
 use Rattle.demands.proofs.BaseXCalls.Items.{item-due, item}
 use Rattle.demands.proofs.BaseXCalls.Walked.{items-walked}
 
@@ -28,6 +30,9 @@ basex-calls =
       coded-told = λ first texts. (refl, refl);
       write-request = write-request;
       read-response = read-response;
+      error = error;
+      error-due = error-due;
+      error-told = error-told;
       item = λ kind s short at told. item kind s at told short;
       item-due = item-due;
       items-walked = items-walked;

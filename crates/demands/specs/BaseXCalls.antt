@@ -25,7 +25,7 @@ use Rattle.basex.specs.Kinds.{findOf, listed, isFull}
 use Rattle.basex.specs.Request as request
 use Rattle.basex.specs.Request.{Request}
 use Rattle.basex.specs.Response as response
-use Rattle.basex.specs.Response.{Item, Response, itemBytes, ItemAllowed, Stands}
+use Rattle.basex.specs.Response.{Item, Response, itemBytes, ItemAllowed, Stands, errorOf}
 use Rattle.basex_request.specs.Calls.{padded}
 use Rattle.basex_request.specs.Reading as requests
 use Rattle.basex_request.specs.Reading.{kindOf, textsOf}
@@ -37,7 +37,7 @@ use Rattle.basex_exact.specs.Calls.{listedOf, uriOf, textOf}
 use Rattle.basex_exact.specs.Exactly.{Cut, partsOf, Means, Unwritten, MeansItem, ItemUnwritten, MeansEnd, EndUnwritten}
 use Rattle.basex_exact.specs.Moments.{Encoded, Begun, nextBytes, NextAllowed, BadId, BadItem}
 use Rattle.basex_c.specs.Codes.{Outcome, code, toldIn, storedIn}
-use Rattle.basex_c.specs.Told.{spelledCode, judging, decoding, requestRead, responseRead, itemRead}
+use Rattle.basex_c.specs.Told.{spelledCode, judging, decoding, requestRead, responseRead, itemRead, errorRead}
 use Rattle.demands.specs.Answered.{Answered, REFUSED, answered}
 
 -- a slice that can be lent: none in memory has 2^63 elements
@@ -68,6 +68,9 @@ readResponseCalled kind s out told = telling out (responses.left out (responses.
 
 abbrev pub itemCalled : ℕ → List ℕ → ℕ → List ℕ → Called
 itemCalled kind s at told = telling [] [] told (itemRead kind s at (length told))
+
+abbrev pub errorCalled : ℕ → List ℕ → List ℕ → Called
+errorCalled kind numbers place = telling [] [] place (errorRead kind numbers (length place))
 
 -- .. and then of those that write
 abbrev pub writing : ℕ → List ℕ → Called
@@ -196,6 +199,51 @@ pub record ResponseRead (kind : ℕ) (s out told : List ℕ) (c : Called) : Type
   pub fits : length (flatten (allTexts value)) ≤ length out
   pub stored : c .out ≡ over out 0 (flatten (allTexts value))
 
+-- enum kdr_basex_error_field: KDR_BASEX_ERROR_START, _LENGTH
+pub record ErrorNumbers : Type 0 where
+  pub start : ℕ
+  pub len : ℕ
+
+abbrev pub errorNumbers : List ℕ → ErrorNumbers
+errorNumbers t = record { start = getD t 0 0; len = getD t 1 0 }
+
+-- the refusal that is due where the error is asked for, by whatever numbers are given, with so many lent
+pub data ErrorDue (kind : ℕ) (numbers : List ℕ) (lent : ℕ) : Refusal → Type 0 where
+  -- 10 ahead of anything: fewer than six are given
+  too-few : length numbers < 6 → ErrorDue kind numbers lent NoRoom
+  -- 2: a kind that is none
+  unknown : 6 ≤ length numbers → findOf kind ≡ Unknown → ErrorDue kind numbers lent UnknownInstruction
+  -- "Status above 01: 8."
+  bad-status : 6 ≤ length numbers → (n : ℕ) (reply : Reply) → findOf kind ≡ Known n reply → 1 < responseNumbers numbers .status
+      → ErrorDue kind numbers lent ValueNotAllowed
+  -- 10, last: there is an error, and fewer than two are lent
+  no-room : 6 ≤ length numbers → (n : ℕ) (reply : Reply) → findOf kind ≡ Known n reply → responseNumbers numbers .status ≡ 1 → lent < 2
+      → ErrorDue kind numbers lent NoRoom
+
+-- the request did not fail: 0, and nothing is told
+pub record NoError (place : List ℕ) (c : Called) : Type 0 where
+  pub counted : c .answer ≡ Answered.count 0
+  pub untold : c .told ≡ place
+
+-- it failed: 1, and two numbers are told
+pub record SomeError (place : List ℕ) (c : Called) : Type 0 where
+  pub counted : c .answer ≡ Answered.count 1
+  pub fields : Fields 2 place (c .told)
+
+-- by status 00 or 01
+abbrev pub ErrorAsked : List ℕ → List ℕ → Called → Type 0
+ErrorAsked numbers place c =
+    ((responseNumbers numbers .status ≡ 0) × NoError place c) ⊎ ((responseNumbers numbers .status ≡ 1) × SomeError place c)
+
+-- the error string of a response, none or one, is cut out of the output that reading the response left, by the two numbers told
+pub data ErrorTold (errors : List (List ℕ)) (out place : List ℕ) (c : Called) : Type 0 where
+  none : errors ≡ [] → NoError place c → ErrorTold errors out place c
+  -- 10: "A refusal returns its number alone"
+  no-room : (t : List ℕ) → errors ≡ t ∷ [] → length place < 2 → c ≡ refusedWith NoRoom [] place → ErrorTold errors out place c
+  one : (t : List ℕ) → errors ≡ t ∷ [] → SomeError place c
+      → errorNumbers (c .told) .start + errorNumbers (c .told) .len ≤ length out
+      → take (errorNumbers (c .told) .len) (drop (errorNumbers (c .told) .start) out) ≡ t → ErrorTold errors out place c
+
 -- enum kdr_basex_item_field: KDR_BASEX_ITEM_ID, _URI, _TEXT
 pub record ItemNumbers : Type 0 where
   pub id : ℕ
@@ -310,6 +358,15 @@ pub record BaseXCalls : Type 0 where
   pub read-response : (kind : ℕ) (s : List ℕ) → Lendable s → (out told : List ℕ)
       → Right (Unread (responses.reading kind s) (λ r. NoPlace out (length (flatten (allTexts r))) told 6)) (ResponseRead kind s out told)
       out told (readResponseCalled kind s out told)
+  -- whatever numbers are given, kdr_basex_error answers by the status, and refuses exactly where it is due
+  pub error : (kind : ℕ) (numbers place : List ℕ)
+      → Right (ErrorDue kind numbers (length place)) (ErrorAsked numbers place) [] place (errorCalled kind numbers place)
+  pub error-due : (kind : ℕ) (numbers place : List ℕ) (r : Refusal) → ErrorDue kind numbers (length place) r
+      → errorCalled kind numbers place ≡ refusedWith r [] place
+  -- by the numbers that kdr_basex_read_response told of a response, it tells where the error stands in the output that this left
+  pub error-told : (kind : ℕ) (s : List ℕ) (r : Response) (rest out told place : List ℕ) (h : Stands kind r s rest)
+      → length (flatten (allTexts r)) ≤ length out → 6 ≤ length told
+      → ErrorTold (errorOf (h .reply) r) (readResponseCalled kind s out told .out) place (errorCalled kind (readResponseCalled kind s out told .told) place)
   -- an item, or the end of them; and a refusal exactly where it is due
   pub item : (kind : ℕ) (s : List ℕ) → Lendable s → (at : ℕ) (told : List ℕ)
       → Right (ItemDue kind (drop at s) (length told)) (λ c. ItemRead kind s at told c ⊎ ItemsEnd kind s at told c)

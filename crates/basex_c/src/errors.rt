@@ -1,0 +1,75 @@
+// The error of a response.
+ghost use mathlib.Core.Path.{_≡_};
+ghost use lib.ListN.{length};
+ghost use Rattle.basex_c.specs.Codes.{lent, code, toldIn};
+ghost use Rattle.basex_c.specs.Told.{errorTold, errorIn, errorRead};
+use basex::Found;
+use wire::Refusal;
+use wire::refusal_code;
+
+// Where the error stands in the output that the response was read into; none where the request did
+// not fail.
+pub enum ErrorIn {
+    At { start: usize, len: usize },
+    None,
+    Refused(Refusal),
+}
+
+// By the six numbers that reading it told.
+fn error_in(kind: u8, response: &[u64]) -> ErrorIn
+    ensures { λ r. ⌜ r ≡ errorIn kind (now (response .entry)) ⌝ }
+{
+    if response.len() < 6 {
+        return ErrorIn::Refused(Refusal::NoRoom);
+    }
+    match basex::find(kind) {
+        Found::Unknown => ErrorIn::Refused(Refusal::UnknownInstruction),
+        Found::Known(_, reply) => {
+            let status = response[4];
+            if 1 < status {
+                return ErrorIn::Refused(Refusal::ValueNotAllowed);
+            }
+            if status == 0 {
+                return ErrorIn::None;
+            }
+            let place = basex_response::error_at(
+                reply,
+                response[0] as usize,
+                response[1] as usize,
+                response[3] as usize,
+                response[5] as usize,
+            );
+            ErrorIn::At {
+                start: place.start,
+                len: place.len,
+            }
+        }
+    }
+}
+
+// Two numbers to the front of the lent ones; 0 and none where there is no error.
+fn tell_error(place: &mut [u64], answer: ErrorIn) -> u64
+    ensures { λ r. ⌜ (r ≡ code (lent (length (now (place .entry))) (errorTold answer))) × (now (place .exit) ≡ toldIn (now (place .entry)) (lent (length (now (place .entry))) (errorTold answer))) ⌝ }
+{
+    match answer {
+        ErrorIn::Refused(r) => refusal_code(r),
+        ErrorIn::None => 0,
+        ErrorIn::At { start, len } => {
+            if place.len() < 2 {
+                return refusal_code(Refusal::NoRoom);
+            }
+            place[0] = start as u64;
+            place[1] = len as u64;
+            1
+        }
+    }
+}
+
+// The error of a response that kdr_basex_read_response read, by the kind and the six numbers told: 1
+// where the request failed, and told are where its error starts in the output and how long it is.
+#[no_mangle]
+pub extern "C" fn kdr_basex_error(kind: u8, response: &[u64], place: &mut [u64]) -> u64
+    ensures { λ r. ⌜ (r ≡ code (errorRead kind (now (response .entry)) (length (now (place .entry))))) × (now (place .exit) ≡ toldIn (now (place .entry)) (errorRead kind (now (response .entry)) (length (now (place .entry))))) ⌝ }
+{
+    tell_error(place, error_in(kind, response))
+}
