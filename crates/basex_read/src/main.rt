@@ -2,10 +2,10 @@
 // bytes. The byte is the first byte of the request whose response the bytes are (20 for COMMAND), or
 // FF where they are a request themselves. Prints a line for each record:
 //     NUMBER BYTE REFUSAL
-//     NUMBER BYTE 0 READ STATUS FIELD ..      a response; an item is ID:TEXT or ID:URI:TEXT, an error
-//                                             !TEXT behind the last field
+//     NUMBER BYTE 0 READ STATUS FIELD ..      a response; an item is ID:TEXT or ID:URI:TEXT, and with
+//                                             status 01 the last field is the error, !TEXT
 //     NUMBER FF 0 READ KIND FIELD ..          a request
-// in hexadecimal but for numbers, refusals, counts and ids; an empty field is `-`. The last line is
+// in hexadecimal but for numbers, refusals, counts and ids; an empty text is `-`. The last line is
 // `end`, or `damaged` at a cut record or one above 65,536 bytes, where it stops.
 ghost use Prim.Native.Nat.{_<_};
 use libc::STDIN_FILENO;

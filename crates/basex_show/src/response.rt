@@ -1,4 +1,5 @@
-// A response: its status, its strings, its items as ID:TEXT or ID:URI:TEXT, and !ERROR.
+// A response: its status, its strings, its items as ID:TEXT or ID:URI:TEXT, and its error as !TEXT,
+// ahead of the status in the bytes or behind it.
 use crate::text::accepted;
 use crate::text::field;
 use crate::text::field_if;
@@ -59,12 +60,27 @@ fn items_if(reply: Reply, n: usize, bytes: &[u8], out: &[u8], at: usize) -> usiz
     at
 }
 
-fn error_if(failed: bool, out: &[u8], at: usize, len: usize) -> usize {
-    if failed {
+// Which string ahead of the status is the error, counted from 1; 0 where none is: "with status 01 the
+// last string is the error", which stands ahead where none stands behind.
+fn error_ahead(reply: Reply, status: u8) -> usize {
+    if status == 1 {
+        if basex::strings_behind(reply, status) == 0 {
+            return basex::strings_ahead(reply);
+        }
+    }
+    0
+}
+
+// A string or an error, where it is there at all; answers where the next text starts.
+fn string_if(there: bool, is_error: bool, out: &[u8], at: usize, len: usize) -> usize {
+    if !there {
+        return at;
+    }
+    if is_error {
         say(b" ");
         return field(out, at, len, b'!');
     }
-    at
+    field(out, at, len, b' ')
 }
 
 // Answers how many bytes of the output the texts take.
@@ -88,10 +104,12 @@ pub fn show(kind: u8, bytes: &[u8], out: &mut [u8]) -> usize {
             hex(&[status]);
             let reply = reply_of(kind);
             let n = basex::strings_ahead(reply);
-            let a = field_if(0 < n, out, 0, first, b' ');
-            let b = field_if(1 < n, out, a, second, b' ');
+            let behind = basex::strings_behind(reply, status);
+            let which = error_ahead(reply, status);
+            let a = string_if(0 < n, which == 1, out, 0, first);
+            let b = string_if(1 < n, which == 2, out, a, second);
             let c = items_if(reply, count, bytes, out, b);
-            error_if(0 < basex::strings_behind(reply, status), out, c, error)
+            string_if(0 < behind, true, out, c, error)
         }
     }
 }
