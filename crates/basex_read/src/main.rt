@@ -6,7 +6,7 @@
 //                                             status 01 the last field is the error, !TEXT
 //     NUMBER FF 0 READ KIND FIELD ..          a request
 // in hexadecimal but for numbers, refusals, counts and ids; an empty text is `-`. The last line is
-// `end`, or `damaged` at a cut record or one above 65,536 bytes, where it stops.
+// `end`, or `damaged` at a cut record, one above 65,536 bytes or a read that fails, where it stops.
 ghost use Prim.Native.Nat.{_<_};
 use libc::STDIN_FILENO;
 use lines::print::decimal;
@@ -32,16 +32,43 @@ fn damaged() -> bool {
     false
 }
 
+// What stands where a record may start: a whole head, the input's end, or what cannot be read.
+enum Start {
+    Head,
+    End,
+    Damaged,
+}
+
+// The first read tells a failure from the input's end. Where a later one fails, fewer bytes came
+// than were asked for, as where the input ends: the record is cut.
+fn read_head(head: &mut [u8]) -> Start {
+    let first = libc::read(STDIN_FILENO, head);
+    if first < 0 {
+        return Start::Damaged;
+    }
+    let got = io::count(first, head);
+    if got == 0 {
+        return Start::End;
+    }
+    if got == head.len() {
+        return Start::Head;
+    }
+    if io::read_full(STDIN_FILENO, &mut head[got..]) < head.len() - got {
+        return Start::Damaged;
+    }
+    Start::Head
+}
+
 // One record: whether there may be another.
 fn record(number: u64, space: &mut [u8], out: &mut [u8]) -> bool {
     let mut head = [0u8; 5];
-    let got = io::read_full(STDIN_FILENO, &mut head);
-    if got == 0 {
-        say(b"end\n");
-        return false;
-    }
-    if got < 5 {
-        return damaged();
+    match read_head(&mut head) {
+        Start::Head => {}
+        Start::Damaged => return damaged(),
+        Start::End => {
+            say(b"end\n");
+            return false;
+        }
     }
     let n = ((wide(head[4]) * 256 + wide(head[3])) * 256 + wide(head[2])) * 256 + wide(head[1]);
     if space.len() < n {
