@@ -4,6 +4,7 @@ use Prim.Native.Nat.{ℕ, _-_}
 use lib.Dec.{ltb, eqb}
 use lib.ListN.{length, drop, getD}
 use Rattle.wire.specs.Bytes.{if}
+use Rattle.wire.specs.declared.Place.{Place}
 use Rattle.wire.specs.declared.Refusal.the-variants.{MoreBytes, UnknownInstruction, ValueNotAllowed, NoRoom}
 use Rattle.wire.specs.Refusals.{refusalCode}
 use Rattle.basex_string.specs.declared.Spelled.{Spelled}
@@ -23,7 +24,6 @@ use Rattle.basex_response.specs.declared.ItemAt.{ItemAt}
 use Rattle.basex_response.specs.declared.ItemAt.the-variants as item-at
 use Rattle.basex_response.specs.declared.Replied.{Replied}
 use Rattle.basex_response.specs.declared.Replied.the-variants as replied
-use Rattle.basex_response.specs.declared.ErrorAt.{ErrorAt}
 use Rattle.basex_response.specs.Errors.{errorAt}
 use Rattle.basex_response.specs.Items.{next, itemAt}
 use Rattle.basex_response.specs.Reading.{answered}
@@ -89,19 +89,16 @@ itemRead kind s at numbers = lent numbers (itemTold at (itemIn kind s at))
 
 -- the error of a response: 1 where the request failed, and told are where it starts and how long it is. 0 where it did not, and nothing is told
 abbrev pub errorTold : ErrorIn → Outcome
-errorTold (error-in.At start len) = Outcome.counted 1 (start ∷ len ∷ [])
+errorTold (error-in.At place) = Outcome.counted 1 (place .start ∷ place .len ∷ [])
 errorTold error-in.None = Outcome.counted 0 []
 errorTold (error-in.Refused r) = Outcome.refused r
-
-abbrev pub errorPlaced : ErrorAt → ErrorIn
-errorPlaced e = error-in.At (e .start) (e .len)
 
 -- by the six numbers that reading it told: 2 for a kind that is none, 8 for a status above 1
 abbrev pub errorAs : Found → List ℕ → ErrorIn
 errorAs Unknown n = error-in.Refused UnknownInstruction
 errorAs (Known k reply) n =
     if (ltb 1 (getD n 4 0)) (error-in.Refused ValueNotAllowed)
-    (if (eqb (getD n 4 0) 0) error-in.None (errorPlaced (errorAt reply (getD n 0 0) (getD n 1 0) (getD n 3 0) (getD n 5 0))))
+    (if (eqb (getD n 4 0) 0) error-in.None (error-in.At (errorAt reply (getD n 0 0) (getD n 1 0) (getD n 3 0) (getD n 5 0))))
 
 -- 10 ahead of anything where fewer than six are given
 abbrev pub errorIn : ℕ → List ℕ → ErrorIn

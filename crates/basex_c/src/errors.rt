@@ -4,13 +4,14 @@ ghost use lib.ListN.{length};
 ghost use Rattle.basex_c.specs.Codes.{lent, code, toldIn};
 ghost use Rattle.basex_c.specs.Told.{errorTold, errorIn, errorRead};
 use basex::Found;
+use wire::Place;
 use wire::Refusal;
 use wire::refusal_code;
 
 // Where the error stands in the output that the response was read into; none where the request did
 // not fail.
 pub enum ErrorIn {
-    At { start: usize, len: usize },
+    At(Place),
     None,
     Refused(Refusal),
 }
@@ -32,17 +33,13 @@ fn error_in(kind: u8, response: &[u64]) -> ErrorIn
             if status == 0 {
                 return ErrorIn::None;
             }
-            let place = basex_response::error_at(
+            ErrorIn::At(basex_response::error_at(
                 reply,
                 response[0] as usize,
                 response[1] as usize,
                 response[3] as usize,
                 response[5] as usize,
-            );
-            ErrorIn::At {
-                start: place.start,
-                len: place.len,
-            }
+            ))
         }
     }
 }
@@ -54,12 +51,12 @@ fn tell_error(place: &mut [u64], answer: ErrorIn) -> u64
     match answer {
         ErrorIn::Refused(r) => refusal_code(r),
         ErrorIn::None => 0,
-        ErrorIn::At { start, len } => {
+        ErrorIn::At(at) => {
             if place.len() < 2 {
                 return refusal_code(Refusal::NoRoom);
             }
-            place[0] = start as u64;
-            place[1] = len as u64;
+            place[0] = at.start as u64;
+            place[1] = at.len as u64;
             1
         }
     }

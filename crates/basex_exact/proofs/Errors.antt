@@ -7,7 +7,7 @@ use lib.ListN.{length, getD}
 use Rattle.basex.specs.declared.Reply.{Reply}
 use Rattle.basex.specs.declared.Reply.the-variants.{Command, Stored, Query, Results, Full}
 use Rattle.basex.specs.Response.{Response, Published, errorOf}
-use Rattle.basex_response.specs.declared.ErrorAt.{ErrorAt}
+use Rattle.wire.specs.declared.Place.{Place}
 use Rattle.basex_response.specs.Items.{itemTexts}
 use Rattle.basex_exact.specs.Exactly.{OneError}
 
@@ -27,7 +27,7 @@ two-of (t ∷ u ∷ []) h = refl
 two-of (t ∷ u ∷ v ∷ ts) h = absurd (omega arith)
 
 -- behind one text
-abbrev behind-one : List ℕ → ℕ → ErrorAt
+abbrev behind-one : List ℕ → ℕ → Place
 behind-one t n = record { start = length t; len = n }
 
 after-one : (t : List ℕ) (n : ℕ) → behind-one t n ≡ record { start = length (flatten (t ∷ [])); len = n }

@@ -1,32 +1,32 @@
 // Where the error of a failed request stands.
 ghost use mathlib.Core.Path.{_≡_};
 ghost use Rattle.basex_response.specs.Errors.{errorAt};
-use crate::ErrorAt;
 use basex::Reply;
+use wire::Place;
 
 // Of a response with status 1, by how long its texts are: of COMMAND, CREATE, ADD, PUT and PUTBINARY
 // the last text ahead of the status, of the others the one behind it.
-pub fn error_at(reply: Reply, first: usize, second: usize, listed: usize, error: usize) -> ErrorAt
+pub fn error_at(reply: Reply, first: usize, second: usize, listed: usize, error: usize) -> Place
     ensures { λ r. ⌜ r ≡ errorAt reply first second listed error ⌝ }
 {
     match reply {
-        Reply::Command => ErrorAt {
+        Reply::Command => Place {
             start: first,
             len: second,
         },
-        Reply::Stored => ErrorAt {
+        Reply::Stored => Place {
             start: 0,
             len: first,
         },
-        Reply::Query => ErrorAt {
+        Reply::Query => Place {
             start: first,
             len: error,
         },
-        Reply::Results => ErrorAt {
+        Reply::Results => Place {
             start: listed,
             len: error,
         },
-        Reply::Full => ErrorAt {
+        Reply::Full => Place {
             start: listed,
             len: error,
         },

@@ -41,9 +41,3 @@ pub enum Replied {
     },
     Refused(Refusal),
 }
-
-// Where the error of a response starts in the output that it was read into, and how long it is.
-pub struct ErrorAt {
-    pub start: usize,
-    pub len: usize,
-}

@@ -10,6 +10,7 @@ use lib.ListN.{length, take, drop, getD, length-append}
 use lib.Seq.{take-append-seam, drop-append-seam}
 use borrow.Author.Tests.{leb-true, lt-ltb, le-ltb, ltb-true, ltb-false}
 use Rattle.wire.specs.Bytes.{over}
+use Rattle.wire.specs.declared.Place.{Place}
 use Rattle.wire.specs.declared.Refusal.{Refusal}
 use Rattle.wire.specs.declared.Refusal.the-variants.{UnknownInstruction, ValueNotAllowed, NoRoom}
 use Rattle.wire.proofs.Over.{placed-fits, length-over}
@@ -19,7 +20,6 @@ use Rattle.basex.specs.declared.Reply.{Reply}
 use Rattle.basex.specs.Kinds.{findOf}
 use Rattle.basex.specs.Response.{Response, Stands, errorOf}
 use Rattle.basex.specs.Texts.{lengthAt}
-use Rattle.basex_response.specs.declared.ErrorAt.{ErrorAt}
 use Rattle.basex_response.specs.Errors.{errorAt}
 use Rattle.basex_response.specs.Items.{itemTexts}
 use Rattle.basex_response.specs.Reading.{allTexts}
@@ -29,7 +29,7 @@ use Rattle.basex_exact.proofs.Responses.{response-exact}
 use Rattle.basex_c.specs.declared.errors.ErrorIn.{ErrorIn}
 use Rattle.basex_c.specs.declared.errors.ErrorIn.the-variants as error-in
 use Rattle.basex_c.specs.Codes.{Outcome, lent}
-use Rattle.basex_c.specs.Told.{errorTold, errorPlaced, errorIn}
+use Rattle.basex_c.specs.Told.{errorTold, errorIn}
 use Rattle.demands.specs.Answered.{Answered}
 use Rattle.demands.specs.BaseXCalls as calls
 use Rattle.demands.specs.BaseXCalls.{Called, telling, refusedWith, Right, responseNumbers, errorNumbers, ErrorDue, NoError, SomeError, ErrorAsked, ErrorTold}
@@ -39,7 +39,7 @@ module _ (kind : ℕ) (numbers place : List ℕ) where
   abbrev status : ℕ
   status = responseNumbers numbers .status
 
-  abbrev errorPlace : Reply → ErrorAt
+  abbrev errorPlace : Reply → Place
   errorPlace reply = errorAt reply (getD numbers 0 0) (getD numbers 1 0) (getD numbers 3 0) (getD numbers 5 0)
 
   -- what the call makes of what is asked
@@ -56,7 +56,7 @@ module _ (kind : ℕ) (numbers place : List ℕ) where
     asks-none : status ≡ 0 → errorIn kind numbers ≡ error-in.None
     asks-none s = rw (le-ltb (length numbers) 6 six, known, s)
 
-    asks-place : status ≡ 1 → errorIn kind numbers ≡ errorPlaced (errorPlace reply)
+    asks-place : status ≡ 1 → errorIn kind numbers ≡ error-in.At (errorPlace reply)
     asks-place s = rw (le-ltb (length numbers) 6 six, known, s)
 
     asks-above : 1 < status → errorIn kind numbers ≡ error-in.Refused ValueNotAllowed
@@ -163,7 +163,7 @@ module _ (kind : ℕ) (s : List ℕ) (r : Response) (rest out told place : List 
           let c = error-is kind (numbers ++ drop 6 told) place long (h .strings) (h .reply) (h .known) e two in
           let after = over out 0 (flatten (allTexts r)) in
           let p = subst (λ (m : List ℕ). There (over out 0 m) (o .error) (length (flatten (o .front))) (length (o .error))) (sym f) w in
-          let q = subst (λ (x : ErrorAt). There after (o .error) (x .start) (x .len)) (sym (o .place)) p in
+          let q = subst (λ (x : Place). There after (o .error) (x .start) (x .len)) (sym (o .place)) p in
           let z = subst (λ (x : Called). There after (o .error) (errorNumbers (x .told) .start) (errorNumbers (x .told) .len)) (sym c) q in
           ErrorTold.one (o .error) (o .one) (some-error kind (numbers ++ drop 6 told) place long (h .strings) (h .reply) (h .known) e two) (z .0) (z .1)
 

@@ -1,7 +1,7 @@
 use mathlib.Core.Path.{refl, ap, _∙_}
 use borrow.Author.Needs.{needs}
 use borrow.Author.Tests.{lt-ltb, le-ltb, eq-eqb, ne-eqb}
-use Rattle.basex_c.specs.Told.{errorPlaced}
+use Rattle.basex_c.specs.declared.errors.ErrorIn.the-variants as error-in
 use Rattle.basex_c.proofs.errors.error_in.Statement.{statement}
 use Rattle.basex_c.proofs.errors.error_in.Tie as tie
 
@@ -45,7 +45,7 @@ returns-4 : tie.Need-returns-4
 returns-4 c = rw (le-ltb _ _ (c .before .before .before .if1 .left), ← c .before .before .find .ensures, c .enum-told .given .1)
 
 returns-5 : tie.Need-returns-5
-returns-5 c = rw (le-ltb _ _ (c .before .before .before .before .before .before .before .before .before .before .before .before .if1 .left), ← c .before .before .before .before .before .before .before .before .before .before .before .find .ensures, c .before .before .before .before .before .before .before .before .before .reply .given .1, le-ltb _ _ (c .before .before .before .before .before .before .if2 .left), ne-eqb _ _ (c .before .before .before .before .before .if3 .left)) (ap errorPlaced (c .error-at .ensures))
+returns-5 c = rw (le-ltb _ _ (c .before .before .before .before .before .before .before .before .before .before .before .before .if1 .left), ← c .before .before .before .before .before .before .before .before .before .before .before .find .ensures, c .before .before .before .before .before .before .before .before .before .reply .given .1, le-ltb _ _ (c .before .before .before .before .before .before .if2 .left), ne-eqb _ _ (c .before .before .before .before .before .if3 .left)) (ap error-in.At (c .error-at .ensures))
 
 pub error-in-spec : {M : Type 1} → statement M
 error-in-spec =
