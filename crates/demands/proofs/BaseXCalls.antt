@@ -5,6 +5,8 @@ pub mod Writing
 pub mod Errors
 pub mod Items
 pub mod Walked
+pub mod Suffices
+pub mod Streamed
 use mathlib.Core.Path.{refl}
 use native.Mathlib.Omega.{arith}
 use lib.ListN.{length}
@@ -17,6 +19,8 @@ use Rattle.demands.proofs.BaseXCalls.Writing.{write-string, write-reque
 use Rattle.demands.proofs.BaseXCalls.Errors.{error-due, error, error-told}
 use Rattle.demands.proofs.BaseXCalls.Items.{item-due, item}
 use Rattle.demands.proofs.BaseXCalls.Walked.{items-walked}
+use Rattle.demands.proofs.BaseXCalls.Suffices.{response-read, decode-suffices, request-suffices, response-suffices}
+use Rattle.demands.proofs.BaseXCalls.Streamed.{item-first, items-streamed}
 
 pub basex-calls : BaseXCalls
 basex-calls =
@@ -30,12 +34,18 @@ basex-calls =
       coded-told = λ first texts. (refl, refl);
       write-request = write-request;
       read-response = read-response;
+      response-read = response-read;
+      decode-suffices = decode-suffices;
+      request-suffices = request-suffices;
+      response-suffices = response-suffices;
       error = error;
       error-due = error-due;
       error-told = error-told;
       item = λ kind s short at told. item kind s at told short;
       item-due = item-due;
       items-walked = items-walked;
+      item-first = item-first;
+      items-streamed = items-streamed;
       write-item = write-item;
       write-end = write-end;
     }

@@ -315,6 +315,20 @@ walked zero kind s out told at to = []
 walked (suc n) kind s out told at to =
     onward (fullOf (findOf kind)) out at to (itemCalled kind s at told .answer) (itemNumbers (itemCalled kind s at told .told)) (walked n kind s out told)
 
+-- the response with these items in place of its own
+abbrev pub withItems : Response → List Item → Response
+withItems r is = record { texts = r .texts; items = is; status = r .status; error = r .error }
+
+-- by how many bytes an answer takes a caller onward
+abbrev pub countOf : Answered → ℕ
+countOf (Answered.count n) = n
+countOf (Answered.refusal r) = 0
+
+-- what is left of the bytes when n times kdr_basex_item was asked at their front, and as many bytes were dropped as it counted
+unfoldable pub streamed : ℕ → ℕ → List ℕ → List ℕ → List ℕ
+streamed zero kind told s = s
+streamed (suc n) kind told s = streamed n kind told (drop (countOf (itemCalled kind s 0 told .answer)) s)
+
 -- bytes written from `at` on: as many as are counted, and nothing else has changed
 pub record Written (Is : List ℕ → Type 0) (out : List ℕ) (at : ℕ) (c : Called) : Type 0 where
   pub bytes : List ℕ
@@ -358,6 +372,17 @@ pub record BaseXCalls : Type 0 where
   pub read-response : (kind : ℕ) (s : List ℕ) → Lendable s → (out told : List ℕ)
       → Right (Unread (responses.reading kind s) (λ r. NoPlace out (length (flatten (allTexts r))) told 6)) (ResponseRead kind s out told)
       out told (readResponseCalled kind s out told)
+  -- a response that stands in front is the one that is read
+  pub response-read : (kind : ℕ) (s : List ℕ) → Lendable s → (r : Response) (rest out told : List ℕ) → Stands kind r s rest
+      → length (flatten (allTexts r)) ≤ length out → 6 ≤ length told
+      → (a : ResponseRead kind s out told (readResponseCalled kind s out told)) × (a .value ≡ r) × (a .rest ≡ rest)
+  -- an output as long as the input always suffices: with enough numbers lent, no call of reading is refused with 10
+  pub decode-suffices : (s : List ℕ) → Lendable s → (at : ℕ) (out : List ℕ) (to : ℕ) (told : List ℕ) → to + length s ≤ length out → 1 ≤ length told
+      → ¬ (decodeCalled s at out to told .answer ≡ Answered.refusal 10)
+  pub request-suffices : (s : List ℕ) → Lendable s → (out told : List ℕ) → length s ≤ length out → 5 ≤ length told
+      → ¬ (readRequestCalled s out told .answer ≡ Answered.refusal 10)
+  pub response-suffices : (kind : ℕ) (s : List ℕ) → Lendable s → (out told : List ℕ) → length s ≤ length out → 6 ≤ length told
+      → ¬ (readResponseCalled kind s out told .answer ≡ Answered.refusal 10)
   -- whatever numbers are given, kdr_basex_error answers by the status, and refuses exactly where it is due
   pub error : (kind : ℕ) (numbers place : List ℕ)
       → Right (ErrorDue kind numbers (length place)) (ErrorAsked numbers place) [] place (errorCalled kind numbers place)
@@ -377,6 +402,15 @@ pub record BaseXCalls : Type 0 where
   pub items-walked : (kind : ℕ) (s : List ℕ) → Lendable s → listedOf (findOf kind) ≡ true
       → (r : Response) (rest out told : List ℕ) → Stands kind r s rest → length (flatten (allTexts r)) ≤ length out → 3 ≤ length told
       → walked (suc (length (r .items))) kind s (over out 0 (flatten (allTexts r))) told 0 0 ≡ r .items
+  -- item by item, without judging from the front again: the first is told, and behind it stands the response without it; ..
+  pub item-first : (kind : ℕ) (s : List ℕ) → Lendable s → (r : Response) (rest told : List ℕ) → Stands kind r s rest
+      → (i : Item) (is : List Item) → r .items ≡ i ∷ is → 3 ≤ length told
+      → (a : ItemRead kind s 0 told (itemCalled kind s 0 told)) × (a .item ≡ i) × Stands kind (withItems r is) (drop (length (itemBytes i)) s) rest
+  -- .. so one comes to the end of the items, where what is left reads as the response without them
+  pub items-streamed : (kind : ℕ) (s : List ℕ) → Lendable s → listedOf (findOf kind) ≡ true → (r : Response) (rest told : List ℕ)
+      → Stands kind r s rest → 3 ≤ length told
+      → ItemsEnd kind (streamed (length (r .items)) kind told s) 0 told (itemCalled kind (streamed (length (r .items)) kind told s) 0 told)
+      × Stands kind (withItems r []) (streamed (length (r .items)) kind told s) rest
   pub write-item : (out : List ℕ) → Lendable out → (at kind id : ℕ) (uri text : List ℕ)
       → Right (ItemUnwritten (length out) at kind id uri text) (Written (ItemBytes kind id uri text) out at)
       out [] (writeItemCalled out at kind id uri text)

@@ -1,0 +1,141 @@
+-- A caller who drops each item that is told comes to the end of the items, and what is left is the response without them.
+use mathlib.Core.Bool.{Bool, true, false}
+use mathlib.Core.List.{List, [], _∷_, _++_, append-assoc}
+use mathlib.Core.Path.{_≡_, refl, sym, ap, subst, _∙_}
+use Prim.Native.Nat.{ℕ, zero, suc, _+_, _-_, _≤_, _<_}
+use native.Mathlib.Omega.{arith}
+use lib.ListN.{length, drop, length-append, length-drop}
+use lib.Seq.{drop-append-seam}
+use borrow.Author.Tests.{le-ltb}
+use Rattle.basex.specs.declared.Found.{Found}
+use Rattle.basex.specs.declared.Found.the-variants.{Known, Unknown}
+use Rattle.basex.specs.declared.Reply.{Reply}
+use Rattle.basex.specs.declared.Reply.the-variants.{Command, Stored, Query, Results, Full}
+use Rattle.basex.specs.Kinds.{findOf, ahead, listed, isFull}
+use Rattle.basex.specs.Texts.{strings}
+use Rattle.basex.specs.Response.{Item, Response, itemBytes, itemsBytes, encode, ItemAllowed, ItemsAllowed, ListAllowed, Published, Stands}
+use Rattle.basex_response.specs.declared.ItemAt.{ItemAt}
+use Rattle.basex_response.specs.declared.ItemAt.the-variants as item-at
+use Rattle.basex_response.specs.Items.{uriLength, textLength}
+use Rattle.basex_exact.specs.Calls.{listedOf}
+use Rattle.basex_exact.proofs.Chosen.{apart}
+use Rattle.basex_exact.proofs.Handed.{made, item-told, end-told}
+use Rattle.demands.specs.Answered.{Answered, answered}
+use Rattle.demands.specs.BaseXCalls.{Lendable, Called, Lists, ItemRead, ItemsEnd, itemCalled, withItems, countOf, streamed}
+use Rattle.demands.proofs.BaseXCalls.Answers.{count-is, in-front}
+use Rattle.demands.proofs.BaseXCalls.Items.{asks, comes}
+
+-- what stands ahead of an item is nothing
+no-texts : (reply : Reply) → listed reply ≡ true → (ts : List (List ℕ)) → length ts ≡ ahead reply → ts ≡ []
+no-texts Command l ts h = apart (cc)
+no-texts Stored l ts h = apart (cc)
+no-texts Query l ts h = apart (cc)
+no-texts Results l [] h = refl
+no-texts Results l (t ∷ ts) h = absurd (omega arith)
+no-texts Full l [] h = refl
+no-texts Full l (t ∷ ts) h = absurd (omega arith)
+
+-- a response that starts with an item is that item and the response without it
+record Begins (reply : Reply) (r : Response) (i : Item) (is : List Item) : Type 0 where
+  pub list : listed reply ≡ true
+  pub allowed : ItemAllowed (isFull reply) i
+  pub published : Published reply (withItems r is)
+  pub bytes : encode reply r ≡ itemBytes i ++ encode reply (withItems r is)
+
+begins : (reply : Reply) (r : Response) (i : Item) (is : List Item) → Published reply r → r .items ≡ i ∷ is → Begins reply r i is
+unfolding encode itemsBytes ItemsAllowed strings
+begins reply r i is p e = by (listed reply) refl (p .list)
+  where
+    by : (b : Bool) → listed reply ≡ b → ListAllowed b (isFull reply) (r .items) → Begins reply r i is
+    by false l a = apart (cc)
+    by true l a =
+        let q = subst (ItemsAllowed (isFull reply)) e a in
+        let t = no-texts reply l (r .texts) (p .first) in
+        let last = r .status ∷ strings (r .error) in
+        record {
+          list = l;
+          allowed = q .0;
+          published = record { first = p .first; list = rw l (q .1); ended = p .ended; last = p .last };
+          bytes =
+              rw (l, e, t)
+              (ap (λ (m : List ℕ). m ++ last) (append-assoc (itemBytes i) (itemsBytes is) (0 ∷ [])) ∙ append-assoc (itemBytes i) (itemsBytes is ++ (0 ∷ [])) last);
+        }
+
+-- without items it is the 00 behind them, and what follows
+ends : (reply : Reply) (r : Response) → Published reply r → listed reply ≡ true → r .items ≡ [] → encode reply r ≡ 0 ∷ r .status ∷ strings (r .error)
+unfolding encode itemsBytes strings
+ends reply r p l e = let t = no-texts reply l (r .texts) (p .first) in rw (l, e, t) refl
+
+module _ (kind : ℕ) (s : List ℕ) (short : Lendable s) (r : Response) (rest told : List ℕ) (h : Stands kind r s rest) where
+  lists : listed (h .reply) ≡ true → Lists kind (isFull (h .reply))
+  lists l = record { strings = h .strings; reply = h .reply; known = h .known; list = l; uris = refl }
+
+  -- what is told of the first item
+  first-is : (i : Item) (is : List Item) (b : Begins (h .reply) r i is) → 3 ≤ length told
+      → itemCalled kind s 0 told
+      ≡ record { answer = answered (0 + length (itemBytes i) - 0); out = []; told = (i .id ∷ uriLength (isFull (h .reply)) i ∷ textLength (isFull (h .reply)) i ∷ []) ++ drop 3 told }
+  first-is i is b three =
+      let full = isFull (h .reply) in
+      let e = h .encoded ∙ ap (λ (m : List ℕ). m ++ rest) (b .bytes) ∙ append-assoc (itemBytes i) (encode (h .reply) (withItems r is)) rest in
+      ap (comes kind s 0 told) (asks kind s 0 full (lists (b .list)) ∙ item-told full s [] (encode (h .reply) (withItems r is) ++ rest) i (b .allowed) e) ∙ rw (le-ltb (length told) 3 three)
+
+  pub item-first : (i : Item) (is : List Item) → r .items ≡ i ∷ is → 3 ≤ length told
+      → (a : ItemRead kind s 0 told (itemCalled kind s 0 told)) × (a .item ≡ i) × Stands kind (withItems r is) (drop (length (itemBytes i)) s) rest
+  item-first i is e three =
+      let full = isFull (h .reply) in
+      let b = begins (h .reply) r i is (h .published) e in
+      let m = made full i (b .allowed .1) in
+      let left = encode (h .reply) (withItems r is) ++ rest in
+      let z = h .encoded ∙ ap (λ (m : List ℕ). m ++ rest) (b .bytes) ∙ append-assoc (itemBytes i) (encode (h .reply) (withItems r is)) rest in
+      let l = ap length z ∙ length-append (itemBytes i) left in
+      let told-so = subst (λ (c : Called). (a : ItemRead kind s 0 told c) × (a .item ≡ i)) (sym (first-is i is b three)) (
+        record {
+          full = full;
+          lists = lists (b .list);
+          item = i;
+          rest = left;
+          allowed = b .allowed;
+          stands = z;
+          counted = count-is (0 + length (itemBytes i) - 0) (length (itemBytes i)) (omega arith) (omega (arith, short));
+          named = refl;
+          uri = sym (m .uri);
+          text = sym (m .text);
+          fields = in-front (i .id ∷ uriLength full i ∷ textLength full i ∷ []) told three;
+        },
+        refl,
+      ) in
+      (told-so .0, told-so .1, record { strings = h .strings; reply = h .reply; known = h .known; published = b .published; encoded = ap (drop (length (itemBytes i))) z ∙ drop-append-seam (itemBytes i) left })
+
+  -- and at the end of them
+  pub items-end : listed (h .reply) ≡ true → r .items ≡ [] → ItemsEnd kind s 0 told (itemCalled kind s 0 told)
+  items-end l e =
+      let full = isFull (h .reply) in
+      let left = r .status ∷ strings (r .error) ++ rest in
+      let z = h .encoded ∙ ap (λ (m : List ℕ). m ++ rest) (ends (h .reply) r (h .published) l e) in
+      let c : itemCalled kind s 0 told ≡ record { answer = Answered.count 0; out = []; told = told }
+      = ap (comes kind s 0 told) (asks kind s 0 full (lists l) ∙ end-told full s [] left z) ∙ rw (le-ltb (length told) 0 (omega arith)) in
+      subst (ItemsEnd kind s 0 told) (sym c) (record { full = full; lists = lists l; rest = left; stands = z; counted = refl; untold = refl })
+
+listed-so : (kind : ℕ) (r : Response) (s rest : List ℕ) (h : Stands kind r s rest) → listedOf (findOf kind) ≡ true → listed (h .reply) ≡ true
+listed-so kind r s rest h l = sym (ap listedOf (h .known)) ∙ l
+
+module _ (kind : ℕ) (list : listedOf (findOf kind) ≡ true) (rest told : List ℕ) (three : 3 ≤ length told) where
+  -- at the end of the items, with the response without them
+  abbrev Ended : Response → List ℕ → Type 0
+  Ended r t = ItemsEnd kind t 0 told (itemCalled kind t 0 told) × Stands kind (withItems r []) t rest
+
+  streams : (is : List Item) (s : List ℕ) → Lendable s → (r : Response) → Stands kind r s rest → r .items ≡ is → Ended r (streamed (length is) kind told s)
+  unfolding streamed
+  streams [] s short r h e =
+      (items-end kind s short r rest told h (listed-so kind r s rest h list) e, subst (λ (is : List Item). Stands kind (withItems r is) s rest) e h)
+  streams (i ∷ is) s short r h e =
+      let f = item-first kind s short r rest told h i is e three in
+      let k : countOf (itemCalled kind s 0 told .answer) ≡ length (itemBytes i) = ap countOf (f .0 .counted) ∙ ap (λ (j : Item). length (itemBytes j)) (f .1) in
+      let l = length-drop (length (itemBytes i)) s in
+      subst (λ (n : ℕ). Ended r (streamed (length is) kind told (drop n s))) (sym k)
+      (streams is (drop (length (itemBytes i)) s) (omega (arith, short, l)) (withItems r is) (f .2) refl)
+
+pub items-streamed : (kind : ℕ) (s : List ℕ) → Lendable s → listedOf (findOf kind) ≡ true → (r : Response) (rest told : List ℕ) → Stands kind r s rest → 3 ≤ length told
+    → ItemsEnd kind (streamed (length (r .items)) kind told s) 0 told (itemCalled kind (streamed (length (r .items)) kind told s) 0 told)
+    × Stands kind (withItems r []) (streamed (length (r .items)) kind told s) rest
+items-streamed kind s short list r rest told h three = streams kind list rest told three (r .items) s short r h refl
