@@ -20,7 +20,7 @@ use Rattle.demands.proofs.BaseXCalls.Errors.{error-due, error, error-to
 use Rattle.demands.proofs.BaseXCalls.Items.{item-due, item}
 use Rattle.demands.proofs.BaseXCalls.Walked.{items-walked}
 use Rattle.demands.proofs.BaseXCalls.Suffices.{response-read, decode-suffices, request-suffices, response-suffices}
-use Rattle.demands.proofs.BaseXCalls.Streamed.{item-first, items-streamed}
+use Rattle.demands.proofs.BaseXCalls.Streamed.{item-first, item-decoded, items-streamed}
 
 pub basex-calls : BaseXCalls
 basex-calls =
@@ -45,6 +45,7 @@ basex-calls =
       item-due = item-due;
       items-walked = items-walked;
       item-first = item-first;
+      item-decoded = item-decoded;
       items-streamed = items-streamed;
       write-item = write-item;
       write-end = write-end;

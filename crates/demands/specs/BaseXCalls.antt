@@ -26,6 +26,7 @@ use Rattle.basex.specs.Request as request
 use Rattle.basex.specs.Request.{Request}
 use Rattle.basex.specs.Response as response
 use Rattle.basex.specs.Response.{Item, Response, itemBytes, ItemAllowed, Stands, errorOf}
+use Rattle.basex.specs.Texts.{strings as stringsBytes}
 use Rattle.basex_request.specs.Calls.{padded}
 use Rattle.basex_request.specs.Reading as requests
 use Rattle.basex_request.specs.Reading.{kindOf, textsOf}
@@ -406,6 +407,11 @@ pub record BaseXCalls : Type 0 where
   pub item-first : (kind : ℕ) (s : List ℕ) → Lendable s → (r : Response) (rest told : List ℕ) → Stands kind r s rest
       → (i : Item) (is : List Item) → r .items ≡ i ∷ is → 3 ≤ length told
       → (a : ItemRead kind s 0 told (itemCalled kind s 0 told)) × (a .item ≡ i) × Stands kind (withItems r is) (drop (length (itemBytes i)) s) rest
+  -- .. its texts are decoded by themselves: its strings stand behind its id, one behind the other; ..
+  pub item-decoded : (s : List ℕ) → Lendable s → (i : Item) (rest : List ℕ) → s ≡ itemBytes i ++ rest
+      → (front : List (List ℕ)) (t : List ℕ) (back : List (List ℕ)) → i .texts ≡ front ++ (t ∷ back)
+      → (out : List ℕ) (to : ℕ) (told : List ℕ) → to + length t ≤ length out → 1 ≤ length told
+      → (a : Decoded s (suc (length (stringsBytes front))) out to told (decodeCalled s (suc (length (stringsBytes front))) out to told)) × (a .read .text ≡ t)
   -- .. so one comes to the end of the items, where what is left reads as the response without them
   pub items-streamed : (kind : ℕ) (s : List ℕ) → Lendable s → listedOf (findOf kind) ≡ true → (r : Response) (rest told : List ℕ)
       → Stands kind r s rest → 3 ≤ length told

@@ -1,8 +1,8 @@
 -- The call for the error of a response comes out right, and tells where it stands in the output that reading the response left.
 use mathlib.Core.Bool.{Bool, true, false}
 use mathlib.Core.List.{List, [], _∷_, _++_, append-assoc, append-nil, flatten}
-use mathlib.Core.Logic.{_⊎_, inl, inr}
-use mathlib.Core.Path.{_≡_, refl, sym, ap, ap₂, subst, _∙_}
+use mathlib.Core.Logic.{inl, inr}
+use mathlib.Core.Path.{_≡_, refl, sym, ap, subst, _∙_}
 use Prim.Native.Nat.{ℕ, zero, suc, _+_, _-_, _≤_, _<_}
 use native.Mathlib.Omega.{arith}
 use lib.Dec.{ltb}
@@ -28,12 +28,12 @@ use Rattle.basex_exact.proofs.Handed.{flatten-append}
 use Rattle.basex_exact.proofs.Responses.{response-exact}
 use Rattle.basex_c.specs.declared.errors.ErrorIn.{ErrorIn}
 use Rattle.basex_c.specs.declared.errors.ErrorIn.the-variants as error-in
-use Rattle.basex_c.specs.Codes.{Outcome, lent}
+use Rattle.basex_c.specs.Codes.{lent}
 use Rattle.basex_c.specs.Told.{errorTold, errorIn}
 use Rattle.demands.specs.Answered.{Answered}
 use Rattle.demands.specs.BaseXCalls as calls
 use Rattle.demands.specs.BaseXCalls.{Called, telling, refusedWith, Right, responseNumbers, errorNumbers, ErrorDue, NoError, SomeError, ErrorAsked, ErrorTold}
-use Rattle.demands.proofs.BaseXCalls.Answers.{refusal-is, refuses, tells, in-front}
+use Rattle.demands.proofs.BaseXCalls.Answers.{refusal-is, in-front}
 
 module _ (kind : ℕ) (numbers place : List ℕ) where
   abbrev status : ℕ

@@ -2,28 +2,26 @@
 use mathlib.Core.Bool.{Bool, true, false}
 use mathlib.Core.List.{List, [], _∷_, _++_, append-assoc}
 use mathlib.Core.Path.{_≡_, refl, sym, ap, subst, _∙_}
-use Prim.Native.Nat.{ℕ, zero, suc, _+_, _-_, _≤_, _<_}
+use Prim.Native.Nat.{ℕ, suc, _+_, _-_, _≤_}
 use native.Mathlib.Omega.{arith}
 use lib.ListN.{length, drop, length-append, length-drop}
 use lib.Seq.{drop-append-seam}
 use borrow.Author.Tests.{le-ltb}
-use Rattle.basex.specs.declared.Found.{Found}
-use Rattle.basex.specs.declared.Found.the-variants.{Known, Unknown}
+use Rattle.basex_string.specs.Strings.{string}
 use Rattle.basex.specs.declared.Reply.{Reply}
 use Rattle.basex.specs.declared.Reply.the-variants.{Command, Stored, Query, Results, Full}
 use Rattle.basex.specs.Kinds.{findOf, ahead, listed, isFull}
 use Rattle.basex.specs.Texts.{strings}
 use Rattle.basex.specs.Response.{Item, Response, itemBytes, itemsBytes, encode, ItemAllowed, ItemsAllowed, ListAllowed, Published, Stands}
-use Rattle.basex_response.specs.declared.ItemAt.{ItemAt}
-use Rattle.basex_response.specs.declared.ItemAt.the-variants as item-at
 use Rattle.basex_response.specs.Items.{uriLength, textLength}
 use Rattle.basex_exact.specs.Calls.{listedOf}
 use Rattle.basex_exact.proofs.Chosen.{apart}
 use Rattle.basex_exact.proofs.Handed.{made, item-told, end-told}
 use Rattle.demands.specs.Answered.{Answered, answered}
-use Rattle.demands.specs.BaseXCalls.{Lendable, Called, Lists, ItemRead, ItemsEnd, itemCalled, withItems, countOf, streamed}
+use Rattle.demands.specs.BaseXCalls.{Lendable, Called, Lists, Decoded, ItemRead, ItemsEnd, decodeCalled, itemCalled, withItems, countOf, streamed}
 use Rattle.demands.proofs.BaseXCalls.Answers.{count-is, in-front}
 use Rattle.demands.proofs.BaseXCalls.Items.{asks, comes}
+use Rattle.demands.proofs.BaseXCalls.Suffices.{decode-read}
 
 -- what stands ahead of an item is nothing
 no-texts : (reply : Reply) → listed reply ≡ true → (ts : List (List ℕ)) → length ts ≡ ahead reply → ts ≡ []
@@ -115,6 +113,27 @@ module _ (kind : ℕ) (s : List ℕ) (short : Lendable s) (r : Response) (rest t
       let c : itemCalled kind s 0 told ≡ record { answer = Answered.count 0; out = []; told = told }
       = ap (comes kind s 0 told) (asks kind s 0 full (lists l) ∙ end-told full s [] left z) ∙ rw (le-ltb (length told) 0 (omega arith)) in
       subst (ItemsEnd kind s 0 told) (sym c) (record { full = full; lists = lists l; rest = left; stands = z; counted = refl; untold = refl })
+
+strings-append : (ts us : List (List ℕ)) → strings (ts ++ us) ≡ strings ts ++ strings us
+unfolding strings
+strings-append [] us = refl
+strings-append (t ∷ ts) us = ap (λ (m : List ℕ). string t ++ m) (strings-append ts us) ∙ sym (append-assoc (string t) (strings ts) (strings us))
+
+pub item-decoded : (s : List ℕ) → Lendable s → (i : Item) (rest : List ℕ) → s ≡ itemBytes i ++ rest → (front : List (List ℕ)) (t : List ℕ) (back : List (List ℕ)) → i .texts ≡ front ++ (t ∷ back)
+    → (out : List ℕ) (to : ℕ) (told : List ℕ) → to + length t ≤ length out → 1 ≤ length told
+    → (a : Decoded s (suc (length (strings front))) out to told (decodeCalled s (suc (length (strings front))) out to told)) × (a .read .text ≡ t)
+unfolding itemBytes strings
+item-decoded s short i rest e front t back h out to told fits one = decode-read s short (suc (length (strings front))) t (strings back ++ rest) there out to told fits one
+  where
+    behind : strings (i .texts) ++ rest ≡ strings front ++ (string t ++ (strings back ++ rest))
+    behind =
+        ap (λ (m : List (List ℕ)). strings m ++ rest) h
+        ∙ ap (λ (m : List ℕ). m ++ rest) (strings-append front (t ∷ back))
+        ∙ append-assoc (strings front) (string t ++ strings back) rest
+        ∙ ap (λ (m : List ℕ). strings front ++ m) (append-assoc (string t) (strings back) rest)
+
+    there : drop (suc (length (strings front))) s ≡ string t ++ (strings back ++ rest)
+    there = ap (drop (suc (length (strings front)))) e ∙ ap (drop (length (strings front))) behind ∙ drop-append-seam (strings front) (string t ++ (strings back ++ rest))
 
 listed-so : (kind : ℕ) (r : Response) (s rest : List ℕ) (h : Stands kind r s rest) → listedOf (findOf kind) ≡ true → listed (h .reply) ≡ true
 listed-so kind r s rest h l = sym (ap listedOf (h .known)) ∙ l

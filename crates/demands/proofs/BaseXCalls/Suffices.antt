@@ -1,8 +1,8 @@
--- A response that stands in front is read, and an output as long as the input has room for all texts.
-use mathlib.Core.List.{List, flatten}
-use mathlib.Core.Logic.{_⊎_, inl, inr}
+-- A string or a response that stands there is read, and an output as long as the input has room for all texts.
+use mathlib.Core.List.{List, _++_, flatten}
+use mathlib.Core.Logic.{inl, inr}
 use mathlib.Core.Path.{_≡_, refl, sym, ap, _∙_}
-use Prim.Native.Nat.{ℕ, _+_, _≤_, _<_}
+use Prim.Native.Nat.{ℕ, _+_, _≤_}
 use native.Mathlib.Omega.{arith}
 use lib.ListN.{length, drop, length-drop}
 use Rattle.wire.specs.Fields.{Got}
@@ -10,6 +10,8 @@ use Rattle.wire.specs.declared.Refusal.{Refusal}
 use Rattle.wire.specs.declared.Refusal.the-variants.{MoreBytes, UnknownInstruction, OtherSide, BodyTooLong, FieldCut, StringFormat, BytesLeftOver, ValueNotAllowed, OutOfOrder, NoRoom, NoEncoding, BufferOverrun, BadEscape, NoSuchPart}
 use Rattle.wire.specs.Refusals.{numberOf}
 use Rattle.basex_string.specs.Scan as strings
+use Rattle.basex_string.specs.Strings.{string}
+use Rattle.basex_string.proofs.Laws as string-laws
 use Rattle.basex.specs.Request.{Request}
 use Rattle.basex.specs.Response.{Response, Stands}
 use Rattle.basex_request.specs.Reading as requests
@@ -22,7 +24,7 @@ use Rattle.basex_exact.proofs.Exactly.{told-exactly, input-suffices}
 use Rattle.basex_exact.proofs.Listed.{same}
 use Rattle.basex_exact.proofs.Responses.{response-exact, one-response}
 use Rattle.demands.specs.Answered.{Answered}
-use Rattle.demands.specs.BaseXCalls.{Lendable, Called, Right, Unread, NoPlace, ResponseRead, decodeCalled, readRequestCalled, readResponseCalled}
+use Rattle.demands.specs.BaseXCalls.{Lendable, Called, Right, Unread, NoPlace, Decoded, ResponseRead, decodeCalled, readRequestCalled, readResponseCalled}
 use Rattle.demands.proofs.BaseXCalls.Reading.{decode, read-request, read-response}
 
 pub response-read : (kind : ℕ) (s : List ℕ) → Lendable s → (r : Response) (rest out told : List ℕ) → Stands kind r s rest → length (flatten (allTexts r)) ≤ length out → 6 ≤ length told
@@ -46,6 +48,28 @@ response-read kind s short r rest out told h fits six = by (read-response kind s
     by : Right (Unread (responses.reading kind s) (λ p. NoPlace out (length (flatten (allTexts p))) told 6)) (ResponseRead kind s out told) out told (readResponseCalled kind s out told) → Reads
     by (Right.refused q d c) = due q d
     by (Right.accepted a) = let o = one-response kind s (a .value) r (a .rest) rest (a .stands) h in (a, o .0, o .1)
+
+pub decode-read : (s : List ℕ) → Lendable s → (at : ℕ) (t rest : List ℕ) → drop at s ≡ string t ++ rest → (out : List ℕ) (to : ℕ) (told : List ℕ) → to + length t ≤ length out → 1 ≤ length told
+    → (a : Decoded s at out to told (decodeCalled s at out to told)) × (a .read .text ≡ t)
+decode-read s short at t rest h out to told fits one = by (decode s short at told out to)
+  where
+    e : strings.reading (drop at s) ≡ Got.got t rest
+    e = ap strings.reading h ∙ string-laws.read-written t rest
+
+    Reads : Type 0
+    Reads = (a : Decoded s at out to told (decodeCalled s at out to told)) × (a .read .text ≡ t)
+
+    no-place : (u : List ℕ) → u ≡ t → NoPlace out (to + length u) told 1 → Reads
+    no-place u q (inl l) = let z = ap length q in absurd (omega (arith, fits, l, z))
+    no-place u q (inr l) = absurd (omega (arith, one, l))
+
+    due : (q : Refusal) → Unread (strings.reading (drop at s)) (λ u. NoPlace out (to + length u) told 1) q → Reads
+    due q (Unread.unread p d) = let f = e in apart (cc)
+    due q (Unread.no-room u left d n) = no-place u (same (sym d ∙ e) .0) n
+
+    by : Right (Unread (strings.reading (drop at s)) (λ u. NoPlace out (to + length u) told 1)) (Decoded s at out to told) out told (decodeCalled s at out to told) → Reads
+    by (Right.refused q d c) = due q d
+    by (Right.accepted a) = (a, string-laws.one-encoding (a .read .text) t (a .read .rest) rest (sym (a .read .stands) ∙ h) .0)
 
 -- the refusal with the number 10
 ten : (r : Refusal) → numberOf r ≡ 10 → r ≡ NoRoom
