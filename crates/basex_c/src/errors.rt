@@ -46,7 +46,8 @@ fn error_in(kind: u8, response: &[u64]) -> ErrorIn
 
 // Two numbers to the front of the lent ones; 0 and none where there is no error.
 fn tell_error(place: &mut [u64], answer: ErrorIn) -> u64
-    ensures { λ r. ⌜ (r ≡ code (lent (length (now (place .entry))) (errorTold answer))) × (now (place .exit) ≡ toldIn (now (place .entry)) (lent (length (now (place .entry))) (errorTold answer))) ⌝ }
+    ensures { λ r. ⌜ (r ≡ code (lent (length (now (place .entry))) (errorTold answer)))
+        × (now (place .exit) ≡ toldIn (now (place .entry)) (lent (length (now (place .entry))) (errorTold answer))) ⌝ }
 {
     match answer {
         ErrorIn::Refused(r) => refusal_code(r),
@@ -66,7 +67,8 @@ fn tell_error(place: &mut [u64], answer: ErrorIn) -> u64
 // where the request failed, and told are where its error starts in the output and how long it is.
 #[no_mangle]
 pub extern "C" fn kdr_basex_error(kind: u8, response: &[u64], place: &mut [u64]) -> u64
-    ensures { λ r. ⌜ (r ≡ code (errorRead kind (now (response .entry)) (length (now (place .entry))))) × (now (place .exit) ≡ toldIn (now (place .entry)) (errorRead kind (now (response .entry)) (length (now (place .entry))))) ⌝ }
+    ensures { λ r. ⌜ (r ≡ code (errorRead kind (now (response .entry)) (length (now (place .entry)))))
+        × (now (place .exit) ≡ toldIn (now (place .entry)) (errorRead kind (now (response .entry)) (length (now (place .entry))))) ⌝ }
 {
     tell_error(place, error_in(kind, response))
 }
