@@ -20,7 +20,7 @@ const REFUSED: u64 = 1 << 63;
 fn answer(code: u64) -> Result<usize, Refusal> {
     match code.checked_sub(REFUSED) {
         None => Ok(code as usize),
-        Some(number) => Err(Refusal::numbered(number)),
+        Some(number) => Err(Refusal::told(number)),
     }
 }
 

@@ -3,91 +3,86 @@
 use core::error::Error;
 use core::fmt;
 
-/// Why a call was refused. A refused call has changed nothing that it was lent.
-#[derive(Clone, Copy, Debug, PartialEq, Eq, PartialOrd, Ord, Hash)]
-#[repr(u8)]
-pub enum Refusal {
-    /// 1: more bytes are needed.
-    MoreBytes = 1,
-    /// 2: unknown instruction, or BaseX first byte.
-    UnknownInstruction = 2,
-    /// 3: instruction of the other side.
-    OtherSide = 3,
-    /// 4: body length above 10,240.
-    BodyTooLong = 4,
-    /// 5: the body ends inside a field.
-    FieldCut = 5,
-    /// 6: string format byte not 0.
-    StringFormat = 6,
-    /// 7: bytes left over.
-    BytesLeftOver = 7,
-    /// 8: value not allowed.
-    ValueNotAllowed = 8,
-    /// 9: no conversation goes on with this message; a part or an end that no open gathering takes.
-    OutOfOrder = 9,
-    /// 10: lent output shorter than the bytes to be put there.
-    NoRoom = 10,
-    /// 11: value has no encoding (body above 10,240; BaseX command start).
-    NoEncoding = 11,
-    /// 12: item or statement longer than its gathering buffer.
-    BufferOverrun = 12,
-    /// 13: FF followed by a byte other than 00 or FF.
-    BadEscape = 13,
-    /// 14: no such part of a cut.
-    NoSuchPart = 14,
+macro_rules! refusals {
+    ($($number:literal $name:ident $meaning:literal;)*) => {
+        /// Why a call was refused. A refused call has changed nothing that it was lent.
+        ///
+        /// Later versions may have more of them, so a `match` needs a case for all others.
+        ///
+        /// ```
+        /// use keddorimp::Refusal;
+        ///
+        /// assert_eq!(Refusal::numbered(10), Some(Refusal::NoRoom));
+        /// assert_eq!(Refusal::numbered(15), None);
+        /// let words = "refused with 14: no such part of a cut";
+        /// assert_eq!(Refusal::NoSuchPart.to_string(), words);
+        /// ```
+        #[derive(Clone, Copy, Debug, PartialEq, Eq, PartialOrd, Ord, Hash)]
+        #[non_exhaustive]
+        pub enum Refusal {
+            $(
+                #[doc = concat!($number, ": ", $meaning, ".")]
+                $name,
+            )*
+            /// A number that this crate has no name for: the archives are newer than the crate.
+            #[non_exhaustive]
+            Unlisted(u8),
+        }
+
+        impl Refusal {
+            /// All that document 01 lists, by number.
+            pub const ALL: &'static [Self] = &[$(Self::$name),*];
+
+            /// Document 01's number.
+            pub const fn number(self) -> u8 {
+                match self {
+                    $(Self::$name => $number,)*
+                    Self::Unlisted(number) => number,
+                }
+            }
+
+            /// The refusal with this number; none for a number that document 01 does not list.
+            pub const fn numbered(number: u8) -> Option<Self> {
+                match number {
+                    $($number => Some(Self::$name),)*
+                    _ => None,
+                }
+            }
+
+            /// Document 01's words, "given when".
+            pub const fn meaning(self) -> &'static str {
+                match self {
+                    $(Self::$name => $meaning,)*
+                    Self::Unlisted(_) => "a number that this crate has no name for",
+                }
+            }
+        }
+    };
+}
+
+refusals! {
+    1 MoreBytes "more bytes are needed";
+    2 UnknownInstruction "unknown instruction, or BaseX first byte";
+    3 OtherSide "instruction of the other side";
+    4 BodyTooLong "body length above 10,240";
+    5 FieldCut "the body ends inside a field";
+    6 StringFormat "string format byte not 0";
+    7 BytesLeftOver "bytes left over";
+    8 ValueNotAllowed "value not allowed";
+    9 OutOfOrder
+        "no conversation goes on with this message; a part or an end that no open gathering takes";
+    10 NoRoom "lent output shorter than the bytes to be put there";
+    11 NoEncoding "value has no encoding (body above 10,240; BaseX command start)";
+    12 BufferOverrun "item or statement longer than its gathering buffer";
+    13 BadEscape "FF followed by a byte other than 00 or FF";
+    14 NoSuchPart "no such part of a cut";
 }
 
 impl Refusal {
-    /// All of them, by number.
-    pub const ALL: [Self; 14] = [
-        Self::MoreBytes,
-        Self::UnknownInstruction,
-        Self::OtherSide,
-        Self::BodyTooLong,
-        Self::FieldCut,
-        Self::StringFormat,
-        Self::BytesLeftOver,
-        Self::ValueNotAllowed,
-        Self::OutOfOrder,
-        Self::NoRoom,
-        Self::NoEncoding,
-        Self::BufferOverrun,
-        Self::BadEscape,
-        Self::NoSuchPart,
-    ];
-
-    /// Document 01's number, 1 to 14.
-    pub const fn number(self) -> u8 {
-        self as u8
-    }
-
-    /// Document 01's words, "given when".
-    pub const fn meaning(self) -> &'static str {
-        match self {
-            Self::MoreBytes => "more bytes are needed",
-            Self::UnknownInstruction => "unknown instruction, or BaseX first byte",
-            Self::OtherSide => "instruction of the other side",
-            Self::BodyTooLong => "body length above 10,240",
-            Self::FieldCut => "the body ends inside a field",
-            Self::StringFormat => "string format byte not 0",
-            Self::BytesLeftOver => "bytes left over",
-            Self::ValueNotAllowed => "value not allowed",
-            Self::OutOfOrder => {
-                "no conversation goes on with this message; a part or an end that no open \
-                 gathering takes"
-            }
-            Self::NoRoom => "lent output shorter than the bytes to be put there",
-            Self::NoEncoding => "value has no encoding (body above 10,240; BaseX command start)",
-            Self::BufferOverrun => "item or statement longer than its gathering buffer",
-            Self::BadEscape => "FF followed by a byte other than 00 or FF",
-            Self::NoSuchPart => "no such part of a cut",
-        }
-    }
-
-    /// The refusal with this number.
-    pub(crate) fn numbered(number: u64) -> Self {
-        let place = (number as usize).wrapping_sub(1);
-        *Self::ALL.get(place).expect("the archives know fourteen refusals")
+    /// The refusal that the archives have told by number.
+    pub(crate) fn told(number: u64) -> Self {
+        let number = u8::try_from(number).unwrap_or(u8::MAX);
+        Self::numbered(number).unwrap_or(Self::Unlisted(number))
     }
 }
 
@@ -98,3 +93,20 @@ impl fmt::Display for Refusal {
 }
 
 impl Error for Refusal {}
+
+#[cfg(test)]
+mod tests {
+    use super::Refusal;
+
+    #[test]
+    fn a_number_without_a_name_is_kept() {
+        for refusal in Refusal::ALL {
+            assert_eq!(Refusal::told(refusal.number().into()), *refusal);
+        }
+        for number in [0, 15, 255] {
+            assert_eq!(Refusal::told(number.into()), Refusal::Unlisted(number));
+            assert_eq!(Refusal::Unlisted(number).number(), number);
+        }
+        assert_eq!(Refusal::told(256 + 1), Refusal::Unlisted(255));
+    }
+}
