@@ -28,7 +28,9 @@
 //! # Ok::<(), Refusal>(())
 //! ```
 //!
-//! The wrappers judge nothing: what is refused, the library has refused.
+//! The wrappers judge nothing: what is refused, the library has refused. The one exception is a URI
+//! that a BaseX item has or lacks, since the library is given bytes and no `Option`; which items
+//! have one is the library's answer too.
 #![no_std]
 #![deny(unsafe_code)]
 #![warn(missing_docs)]

@@ -5,15 +5,16 @@ use super::{Items, Kind};
 use crate::raw::basex as raw;
 use crate::refusal::Refusal;
 
-/// A response that was read.
+/// A response that was read from bytes that live for `'b`; its texts, and those of its items, stand
+/// in the output and live for `'o`.
 #[derive(Clone, Debug)]
-pub struct Response<'a> {
+pub struct Response<'b, 'o> {
     /// The kind of the request that it answers.
     pub kind: Kind,
     /// Its items: none but for RESULTS and FULL.
-    pub items: Items<'a>,
+    pub items: Items<'b, 'o>,
     /// All else.
-    pub end: End<'a>,
+    pub end: End<'o>,
 }
 
 /// All of a response but its items.
@@ -29,9 +30,9 @@ pub struct End<'a> {
     pub error: &'a [u8],
 }
 
-impl<'a> Response<'a> {
+impl<'o> Response<'_, 'o> {
     /// The error where the request has failed, wherever its kind has it.
-    pub fn failure(&self) -> Option<&'a [u8]> {
+    pub fn failure(&self) -> Option<&'o [u8]> {
         let End { texts: [first, second], status, error } = self.end;
         let text = match self.kind {
             Kind::CREATE | Kind::ADD | Kind::PUT | Kind::PUT_BINARY => first,
@@ -58,11 +59,11 @@ impl<'a> Response<'a> {
 /// assert_eq!((items.len(), response.failure(), count), (2, None, 8));
 /// # Ok::<(), keddorimp::Refusal>(())
 /// ```
-pub fn read_response<'a>(
+pub fn read_response<'b, 'o>(
     kind: Kind,
-    bytes: &'a [u8],
-    out: &'a mut [u8],
-) -> Result<(Response<'a>, usize), Refusal> {
+    bytes: &'b [u8],
+    out: &'o mut [u8],
+) -> Result<(Response<'b, 'o>, usize), Refusal> {
     let (count, [first, second, items, listed, status, error]) =
         raw::read_response(kind.0, bytes, out)?;
     let mut rest: &[u8] = out;

@@ -162,6 +162,16 @@ pub fn write_item(
     })
 }
 
+/// Whether an item with this id has a URI in the response to such a request; or why there is no
+/// such item, or none with a URI. The library has no call for it: given a URI and no room, it
+/// refuses with 10, last of all, exactly an item that has one.
+pub fn takes_uri(kind: u8, id: u8) -> Result<(), Refusal> {
+    match write_item(&mut [], 0, kind, id, b"u", b"") {
+        Ok(_) | Err(Refusal::NoRoom) => Ok(()),
+        Err(refusal) => Err(refusal),
+    }
+}
+
 /// The bytes written from `at` on.
 #[rustfmt::skip]
 pub fn write_end(

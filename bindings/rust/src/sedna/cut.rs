@@ -39,7 +39,7 @@ pub enum Cut<'a> {
         class: u8,
         /// The type, 0 to 6, 10 to 32 or 41 to 61.
         kind: u8,
-        /// The URL, which may be empty, or none.
+        /// The URL: `None` writes the flag 0, `Some(b"")` the flag 1 and an empty URL.
         url: Option<&'a [u8]>,
         /// The whole item.
         text: &'a [u8],

@@ -54,7 +54,7 @@ pub enum Body<'a> {
         class: u8,
         /// The type, 0 to 6, 10 to 32 or 41 to 61.
         kind: u8,
-        /// The URL, which may be empty, or none.
+        /// The URL: none where the flag is 0, `Some(b"")` for an empty one, where it is 1.
         url: Option<&'a [u8]>,
         /// The first part of the item.
         part: &'a [u8],

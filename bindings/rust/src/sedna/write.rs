@@ -72,7 +72,19 @@ pub fn write_options<'o>(
     Ok(&out[..count])
 }
 
-/// Writes ItemStart; a long item is written by a [`Cut`](super::Cut).
+/// Writes ItemStart; a long item is written by a [`Cut`](super::Cut). Without a URL the flag is 0;
+/// `Some(b"")` is the flag 1 and an empty URL.
+///
+/// ```
+/// use keddorimp::sedna::{write_item, Instruction};
+///
+/// let mut out = [0; 32];
+/// let none = write_item(&mut out, Instruction::ITEM_START, 1, 25, None, b"x")?.to_vec();
+/// assert_eq!(none[8..], [1, 25, 0, 0, 0, 0, 0, 1, b'x']);
+/// let empty = write_item(&mut out, Instruction::ITEM_START, 1, 25, Some(b""), b"x")?;
+/// assert_eq!(empty[8..], [1, 25, 1, 0, 0, 0, 0, 0, 0, 0, 0, 0, 1, b'x']);
+/// # Ok::<(), keddorimp::Refusal>(())
+/// ```
 pub fn write_item<'o>(
     out: &'o mut [u8],
     instruction: Instruction,

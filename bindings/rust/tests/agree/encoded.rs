@@ -1,6 +1,7 @@
 //! What the plain writers of BaseX make, as bytes of its own; or why they make nothing.
 
-use bench::plain::basex::{self as plain, bytes};
+use bench::plain::basex::{self as plain, bytes, kind::Form};
+use bench::plain::refusal::{NOT_ALLOWED, UNKNOWN};
 
 /// With so much room, which is enough.
 fn written(most: usize, write: impl FnOnce(&mut [u8]) -> Result<usize, u8>) -> Result<Vec<u8>, u8> {
@@ -23,8 +24,25 @@ pub fn request(kind: u8, texts: [&[u8]; 4]) -> Result<Vec<u8>, u8> {
     written(1 + most(&texts), |out| plain::write_request(out, kind, texts))
 }
 
-pub fn item(kind: u8, id: u8, uri: &[u8], text: &[u8]) -> Result<Vec<u8>, u8> {
-    written(1 + most(&[uri, text]), |out| plain::write_item(out, 0, kind, id, uri, text))
+pub fn item(kind: u8, id: u8, uri: Option<&[u8]>, text: &[u8]) -> Result<Vec<u8>, u8> {
+    let most = 1 + most(&[uri.unwrap_or_default(), text]);
+    written(most, |out| write_item(out, 0, kind, id, uri, text))
+}
+
+/// As the plain writer, to which an empty URI and none are the same; here they are kept apart.
+pub fn write_item(
+    out: &mut [u8],
+    at: usize,
+    kind: u8,
+    id: u8,
+    uri: Option<&[u8]>,
+    text: &[u8],
+) -> Result<usize, u8> {
+    let full = Form::of(kind).ok_or(UNKNOWN)? == Form::Items { full: true };
+    if uri.is_some() != plain::has_uri(full, id) {
+        return Err(NOT_ALLOWED);
+    }
+    plain::write_item(out, at, kind, id, uri.unwrap_or_default(), text)
 }
 
 pub fn end(kind: u8, texts: [&[u8]; 2], status: u8, error: &[u8]) -> Result<Vec<u8>, u8> {

@@ -133,11 +133,12 @@ pub fn write() -> Tally {
     tally.complete(&[2, 8, 10])
 }
 
-/// For every first byte, every byte as the id of an item, with a URI and without, and as the status.
+/// For every first byte, every byte as the id of an item, with a URI, an empty one and none, and as
+/// the status.
 fn write_sweep(tally: &mut Tally) {
     for (kind, byte) in (0x00..=0xFF).flat_map(|kind| (0x00..=0xFF).map(move |byte| (kind, byte))) {
-        let text = b"t".to_vec();
-        let items = vec![(byte, vec![], text.clone()), (byte, b"u".to_vec(), text)];
+        let uris = [None, Some(vec![]), Some(b"u".to_vec())];
+        let items = uris.map(|uri| (byte, uri, b"t".to_vec())).to_vec();
         let call = Call { items, texts: Default::default(), status: byte, error: vec![] };
         let (mut ours, mut plain) = ([0xA5; 24], [0xA5; 24]);
         call.write(kind, false, &mut ours, &mut plain, tally);
@@ -145,11 +146,13 @@ fn write_sweep(tally: &mut Tally) {
     }
 }
 
+/// Id, URI and text.
+type Given = (u8, Option<Vec<u8>>, Vec<u8>);
+
 /// What is to be written.
 #[derive(Debug)]
 struct Call {
-    /// Id, URI and text.
-    items: Vec<(u8, Vec<u8>, Vec<u8>)>,
+    items: Vec<Given>,
     texts: [Vec<u8>; 2],
     status: u8,
     error: Vec<u8>,
@@ -178,17 +181,18 @@ impl Call {
             0 => self.status = rng.pick(&[0, 1, 2, 0xFF, any]),
             1 => self.error = text(rng),
             2 => self.texts[place] = text(rng),
-            3 => self.items.push((rng.pick(&[7, 12, 82]), text(rng), text(rng))),
+            3 => self.items.push((rng.pick(&[7, 12, 82]), Some(text(rng)), text(rng))),
             _ => {
-                let id = rng.pick(&[0, 6, 7, 15, 16, 31, 32, 83, 84, 0xFF, any]);
-                self.items.push((id, vec![], text(rng)));
+                let id = rng.pick(&[0, 6, 7, 12, 15, 16, 31, 32, 82, 83, 84, 0xFF, any]);
+                self.items.push((id, None, text(rng)));
             }
         }
     }
 
     /// What each call writes; nothing where it is refused.
     fn bytes(&self, kind: u8) -> Vec<Vec<u8>> {
-        let items = self.items.iter().map(|(id, uri, text)| encoded::item(kind, *id, uri, text));
+        let item = |(id, uri, text): &Given| encoded::item(kind, *id, uri.as_deref(), text);
+        let items = self.items.iter().map(item);
         let texts = self.texts.each_ref().map(Vec::as_slice);
         let end = encoded::end(kind, texts, self.status, &self.error);
         items.chain([end]).map(Result::unwrap_or_default).collect()
@@ -198,9 +202,8 @@ impl Call {
         let mut writer = ResponseWriter::new(Kind(kind), ours);
         let mut at = 0;
         for (id, uri, text) in &self.items {
-            let expected = plain::write_item(plain, at, kind, *id, uri, text);
-            // No URI is an empty one, and the other way round.
-            let uri = Some(uri.as_slice()).filter(|uri| !uri.is_empty() || *id % 2 == 0);
+            let uri = uri.as_deref();
+            let expected = encoded::write_item(plain, at, kind, *id, uri, text);
             let answer = writer.item(&Item { id: *id, uri, text }).map_err(Refusal::number);
             assert_eq!(answer.map(<[u8]>::len), expected, "to {kind:02X}: {self:?}");
             tally.count(&expected);
@@ -219,9 +222,9 @@ impl Call {
     }
 }
 
-fn item(rng: &mut Rng, full: bool) -> (u8, Vec<u8>, Vec<u8>) {
+fn item(rng: &mut Rng, full: bool) -> Given {
     let any = rng.between(32, 83) as u8;
     let id = rng.pick(&[7, 9, 12, 14, 15, 32, 52, 82, 83, any]);
-    let uri = if plain::has_uri(full, id) { text(rng) } else { vec![] };
+    let uri = plain::has_uri(full, id).then(|| text(rng));
     (id, uri, text(rng))
 }
