@@ -23,6 +23,8 @@ pub use write::{
     write_coded, write_empty, write_item, write_options, write_session, write_statement, write_text,
 };
 
+use core::fmt;
+
 /// The longest body of a message.
 pub const BODY_MAX: usize = 10_240;
 
@@ -38,4 +40,13 @@ pub enum Side {
     Client = 1,
     /// The server.
     Server = 2,
+}
+
+impl fmt::Display for Side {
+    fn fmt(&self, f: &mut fmt::Formatter<'_>) -> fmt::Result {
+        f.pad(match self {
+            Self::Client => "client",
+            Self::Server => "server",
+        })
+    }
 }

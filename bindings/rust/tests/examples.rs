@@ -115,17 +115,19 @@ fn a_shorter_part_after_one_without_room() {
     let (mut long, mut short, mut buffer) = ([0; 32], [0; 32], [0; 4]);
     let long = write_text(&mut long, Instruction::ITEM_PART, b"12345").unwrap();
     let short = write_text(&mut short, Instruction::ITEM_PART, b"1").unwrap();
-    let mut assembly = Assembly::new(&mut buffer);
+    let end = hex("00000172 00000000");
+    let mut assembly = Assembly::new();
     assembly.open(Gathering::Item);
-    assert_eq!(assembly.join(Side::Server, short), Ok((Joined::Part, 14)));
-    assert_eq!(assembly.join(Side::Server, long), Err(Refusal::BufferOverrun));
-    assert_eq!(assembly.join(Side::Server, short), Err(Refusal::BufferOverrun));
-    assert_eq!(assembly.join(Side::Server, &hex("00000172 00000000")), Err(Refusal::BufferOverrun));
-    assert_eq!(assembly.buffer(), b"1\0\0\0");
+    assert_eq!(assembly.join(&mut buffer, Side::Server, short), Ok((Joined::Part, 14)));
+    for bytes in [long, short, &end] {
+        let refused = assembly.join(&mut buffer, Side::Server, bytes);
+        assert_eq!(refused, Err(Refusal::BufferOverrun));
+    }
+    assert_eq!(buffer, *b"1\0\0\0");
     // A new opening drops it.
     assembly.open(Gathering::Item);
-    assert_eq!(assembly.join(Side::Server, short), Ok((Joined::Part, 14)));
-    let (joined, _) = assembly.join(Side::Server, &hex("00000172 00000000")).unwrap();
+    assert_eq!(assembly.join(&mut buffer, Side::Server, short), Ok((Joined::Part, 14)));
+    let (joined, _) = assembly.join(&mut buffer, Side::Server, &end).unwrap();
     assert_eq!(joined, Joined::Item { text: b"1" });
 }
 

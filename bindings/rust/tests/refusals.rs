@@ -22,6 +22,11 @@ fn refused(instruction: Instruction, length: u32, body: &[u8]) -> u8 {
 #[test]
 fn numbers_and_meanings() {
     assert!(Refusal::ALL.iter().map(|refusal| refusal.number()).eq(1..=14));
+    let listed = |&number: &u8| Refusal::numbered(number).is_some();
+    assert!((0..=255).filter(listed).eq(1..=14));
+    for &refusal in Refusal::ALL {
+        assert_eq!(Refusal::numbered(refusal.number()), Some(refusal));
+    }
     let error: &dyn core::error::Error = &Refusal::NoRoom;
     let words = "refused with 10: lent output shorter than the bytes to be put there";
     assert_eq!(error.to_string(), words);
@@ -74,7 +79,7 @@ fn r8_value_not_allowed() {
     let options = write_options(&mut out, Instruction::SET_OPTIONS, &[1, 2], &[1, 1], b"abc");
     assert_eq!((text, options.map(<[u8]>::len)), (Err(Refusal::ValueNotAllowed), text));
     let end = End { texts: [b"", b""], status: 2, error: b"" };
-    let mut writer = ResponseWriter::new(Kind::QUERY, &mut out);
+    let writer = ResponseWriter::new(Kind::QUERY, &mut out);
     assert_eq!(writer.end(&end), Err(Refusal::ValueNotAllowed));
     assert_eq!(out, [0xA5; 64]);
 }
@@ -85,7 +90,8 @@ fn r9_out_of_order() {
     let mut session = Session::new();
     assert_eq!(session.step(Side::Client, &begin), Err(Refusal::OutOfOrder));
     assert_eq!(session, Session::default());
-    assert_eq!(Assembly::new(&mut []).join(Side::Client, &begin), Err(Refusal::OutOfOrder));
+    let joined = Assembly::new().join(&mut [], Side::Client, &begin);
+    assert_eq!(joined, Err(Refusal::OutOfOrder));
 }
 
 #[test]
@@ -111,11 +117,33 @@ fn r11_no_encoding() {
 #[test]
 fn r12_buffer_overrun() {
     let mut buffer = [0xA5; 1];
-    let mut assembly = Assembly::new(&mut buffer);
+    let mut assembly = Assembly::new();
     assembly.open(Gathering::Statement);
     let part = message(Instruction::EXECUTE, 8, &[0, 0, 0, 0, 0, 2, b'1', b'2']);
-    assert_eq!(assembly.join(Side::Client, &part), Err(Refusal::BufferOverrun));
+    let joined = assembly.join(&mut buffer, Side::Client, &part);
+    assert_eq!(joined, Err(Refusal::BufferOverrun));
     assert_eq!(buffer, [0xA5]);
+}
+
+/// A buffer that is lent shorter than what was gathered takes no part, not even an empty one, and
+/// no end; and the gathering is spoilt.
+#[test]
+fn r12_a_shorter_buffer() {
+    let part = message(Instruction::EXECUTE_LONG, 8, &[0, 0, 0, 0, 0, 2, b'1', b'2']);
+    let empty = message(Instruction::EXECUTE_LONG, 6, &[0; 6]);
+    let end = message(Instruction::LONG_QUERY_END, 0, &[]);
+    for bytes in [&part, &empty, &end] {
+        let mut buffer = [0xA5; 9];
+        let mut assembly = Assembly::new();
+        assembly.open(Gathering::Statement);
+        assembly.join(&mut buffer, Side::Client, &part).unwrap();
+        let mut short = [0xA5; 1];
+        let refused = assembly.join(&mut short, Side::Client, bytes);
+        assert_eq!(refused, Err(Refusal::BufferOverrun));
+        assert_eq!(short, [0xA5]);
+        let refused = assembly.join(&mut buffer, Side::Client, &end);
+        assert_eq!(refused, Err(Refusal::BufferOverrun));
+    }
 }
 
 #[test]
@@ -136,4 +164,25 @@ fn instructions_have_names() {
     let named = (0..=1_000).filter(|&number| Instruction(number).name().is_some());
     assert!(named.eq(bench::inputs::MESSAGES.map(|(number, ..)| number)));
     assert_eq!(Instruction::LONG_QUERY_END.name(), Some("LongQueryEnd"));
+}
+
+#[test]
+fn kinds_have_names() {
+    let named = |byte: &u8| Kind(*byte).name().is_some();
+    let known = |byte: &u8| bench::plain::basex::kind::strings(*byte).is_some();
+    assert!((0x00..=0xFF).filter(named).eq((0x00..=0xFF).filter(known)));
+    assert_eq!(Kind::PUT_BINARY.name(), Some("PUTBINARY"));
+    assert!((0x20..=0xFE).all(|byte| Kind(byte).name() == Some("COMMAND")));
+}
+
+#[test]
+fn what_is_shown() {
+    assert_eq!(format!("{} {}", Kind::FULL, Kind(0xFF)), "FULL 0xFF");
+    assert_eq!(format!("{} {}", Instruction::ITEM_END, Instruction(371)), "ItemEnd 371");
+    assert_eq!(format!("{} {}", Side::Client, Side::Server), "client server");
+    assert_eq!(format!("{:>10}", Gathering::Statement), " statement");
+    assert_eq!(
+        format!("{}, {}", Gathering::Item, Gathering::TypedItem),
+        "item up to 3.0, item of 4.0"
+    );
 }

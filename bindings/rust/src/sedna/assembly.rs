@@ -3,6 +3,7 @@
 use super::Side;
 use crate::raw::parts::{self as raw, Record};
 use crate::refusal::Refusal;
+use core::fmt;
 
 /// What is gathered.
 #[derive(Clone, Copy, Debug, PartialEq, Eq, Hash)]
@@ -16,8 +17,18 @@ pub enum Gathering {
     TypedItem = 3,
 }
 
-/// What a message that was joined has done: it was a part, or all is there now, at the front of the
-/// buffer.
+impl fmt::Display for Gathering {
+    fn fmt(&self, f: &mut fmt::Formatter<'_>) -> fmt::Result {
+        f.pad(match self {
+            Self::Statement => "statement",
+            Self::Item => "item up to 3.0",
+            Self::TypedItem => "item of 4.0",
+        })
+    }
+}
+
+/// What a message that was joined has done: it was a part, or all is there now. The text is then
+/// the front part of the lent buffer.
 #[derive(Clone, Copy, Debug, PartialEq, Eq)]
 pub enum Joined<'b> {
     /// A part; more is to come.
@@ -34,7 +45,8 @@ pub enum Joined<'b> {
         /// All of it.
         text: &'b [u8],
     },
-    /// An item of version 4.0 is whole.
+    /// An item of version 4.0 is whole. A URL is not gathered: it stands in the ItemStart, as a
+    /// [`Body::Item`](super::Body::Item).
     TypedItem {
         /// Its class.
         class: u8,
@@ -45,32 +57,44 @@ pub enum Joined<'b> {
     },
 }
 
-/// Joins the messages of a statement or an item in a lent buffer, in place.
+/// Joins the messages of a statement or an item, in place in a buffer that the caller lends to each
+/// call.
+///
+/// An assembly is the record alone, so that it can be kept beside its buffer in one struct, and
+/// what is whole borrows the buffer and not the assembly:
 ///
 /// ```
 /// use keddorimp::sedna::{Assembly, Gathering, Joined, Side};
 ///
-/// let part = [0, 0, 1, 45, 0, 0, 0, 7, 0, 0, 0, 0, 0, 1, b'1'];
-/// let end = [0, 0, 1, 46, 0, 0, 0, 0];
-/// let mut buffer = [0; 100];
-/// let mut assembly = Assembly::new(&mut buffer);
-/// assembly.open(Gathering::Statement);
-/// assembly.join(Side::Client, &part)?;
-/// assembly.join(Side::Client, &part)?;
-/// let (joined, _) = assembly.join(Side::Client, &end)?;
-/// assert_eq!(joined, Joined::Statement { format: 0, text: b"11" });
+/// struct Gateway {
+///     assembly: Assembly,
+///     buffer: Vec<u8>,
+/// }
+///
+/// let mut gateway = Gateway { assembly: Assembly::new(), buffer: vec![0; 100] };
+/// let start = [0, 0, 1, 99, 0, 0, 0, 10, 2, 61, 0, 0, 0, 0, 0, 2, b'4', b'2'];
+/// let end = [0, 0, 1, 114, 0, 0, 0, 0];
+/// gateway.assembly.open(Gathering::TypedItem);
+/// let (joined, _) = gateway.assembly.join(&mut gateway.buffer, Side::Server, &start)?;
+/// assert_eq!(joined, Joined::Part);
+/// let (joined, _) = gateway.assembly.join(&mut gateway.buffer, Side::Server, &end)?;
+/// // The next one is open before this one is used.
+/// gateway.assembly.open(Gathering::TypedItem);
+/// assert_eq!(joined, Joined::TypedItem { class: 2, kind: 61, text: b"42" });
 /// # Ok::<(), keddorimp::Refusal>(())
 /// ```
-#[derive(Debug)]
-pub struct Assembly<'b> {
+///
+/// From the opening to the end the same buffer is lent, and left alone between the calls: what is
+/// gathered is what stands in it. A copy of an assembly goes with a copy of its buffer.
+#[derive(Clone, Debug, Default, PartialEq, Eq)]
+pub struct Assembly {
     record: Record,
-    buffer: &'b mut [u8],
 }
 
-impl<'b> Assembly<'b> {
+impl Assembly {
     /// An assembly with nothing open: every message that reads well is refused with 9.
-    pub fn new(buffer: &'b mut [u8]) -> Self {
-        Self { record: Record::default(), buffer }
+    pub fn new() -> Self {
+        Self::default()
     }
 
     /// Opens a gathering. What an earlier one held, spoilt or unfinished, is dropped.
@@ -78,30 +102,37 @@ impl<'b> Assembly<'b> {
         self.record = raw::open(what as u64);
     }
 
-    /// Joins the message at the front of `bytes`, which `side` sent: what it has done, and how many
-    /// bytes it has. The message that ends a gathering closes it.
+    /// Joins the message at the front of `bytes`, which `side` sent, to what the buffer holds: what
+    /// it has done, and how many bytes it has. The message that ends a gathering closes it.
     ///
     /// Refused with 1 to 8 as [reading](super::read) is, with 9 for a message that the gathering
     /// does not take there, and with 12 where the buffer is too short. After a 12 the gathering is
     /// spoilt, and all its parts and its end are refused with 12, until a new one is opened.
-    pub fn join(&mut self, side: Side, bytes: &[u8]) -> Result<(Joined<'_>, usize), Refusal> {
-        let (count, told) = raw::join(&mut self.record, self.buffer, side as u8, bytes)?;
-        Ok((self.joined(told), count))
+    ///
+    /// A buffer that has become longer is as good as the one before, if it holds the same at its
+    /// front. One that is shorter than what was gathered is too short for every part, even an empty
+    /// one, and for the end. Of another buffer, the front part that was to be gathered is handed
+    /// out, whatever stands there.
+    pub fn join<'b>(
+        &mut self,
+        buffer: &'b mut [u8],
+        side: Side,
+        bytes: &[u8],
+    ) -> Result<(Joined<'b>, usize), Refusal> {
+        let (count, told) = raw::join(&mut self.record, buffer, side as u8, bytes)?;
+        Ok((Joined::told(buffer, told), count))
     }
+}
 
-    /// The whole lent buffer; what is gathered stands at its front.
-    pub fn buffer(&self) -> &[u8] {
-        self.buffer
-    }
-
+impl<'b> Joined<'b> {
     /// What the four numbers tell.
-    fn joined(&self, [what, len, a, b]: [usize; 4]) -> Joined<'_> {
-        let text = &self.buffer[..len];
+    fn told(buffer: &'b [u8], [what, len, a, b]: [usize; 4]) -> Self {
+        let text = &buffer[..len];
         match what {
-            0 => Joined::Part,
-            1 => Joined::Statement { format: a as u8, text },
-            2 => Joined::Item { text },
-            3 => Joined::TypedItem { class: a as u8, kind: b as u8, text },
+            0 => Self::Part,
+            1 => Self::Statement { format: a as u8, text },
+            2 => Self::Item { text },
+            3 => Self::TypedItem { class: a as u8, kind: b as u8, text },
             _ => unreachable!("the archives know three gatherings"),
         }
     }

@@ -1,9 +1,18 @@
 //! The 46 instructions by document 01's names.
 
+use core::fmt;
+
 /// What a message is: its number in document 01's table.
 ///
 /// Any number can stand here, so that every instruction can be asked for: one that the table lacks
-/// is refused with 2.
+/// is refused with 2. One is shown by its name, or by its number where it has none.
+///
+/// ```
+/// use keddorimp::sedna::Instruction;
+///
+/// assert_eq!(Instruction(310).to_string(), "GetNextItem");
+/// assert_eq!(Instruction(311).to_string(), "311");
+/// ```
 #[derive(Clone, Copy, Debug, PartialEq, Eq, PartialOrd, Ord, Hash)]
 pub struct Instruction(pub u32);
 
@@ -73,4 +82,13 @@ instructions! {
     540 SET_OPTIONS_OK "SetOptionsOk" "server";
     550 RESET_OPTIONS "ResetOptions" "client";
     560 RESET_OPTIONS_OK "ResetOptionsOk" "server";
+}
+
+impl fmt::Display for Instruction {
+    fn fmt(&self, f: &mut fmt::Formatter<'_>) -> fmt::Result {
+        match self.name() {
+            Some(name) => f.pad(name),
+            None => self.0.fmt(f),
+        }
+    }
 }
