@@ -5,6 +5,7 @@ mod next;
 mod phase;
 #[cfg(test)]
 mod tests;
+mod turn;
 
 use super::refusal::OUT_OF_ORDER;
 use super::{read, Body, Message, Side};
@@ -41,6 +42,11 @@ impl Session {
     #[inline]
     pub fn closed(&self) -> bool {
         self.phase == Phase::Closed
+    }
+
+    /// Who is to send the next message; none where the conversation has ended.
+    pub fn turn(&self) -> Option<Side> {
+        turn::turn(self.phase)
     }
 
     pub fn phase(&self) -> Phase {

@@ -3,6 +3,7 @@
 mod errors;
 mod order;
 mod record;
+mod turns;
 
 use super::*;
 use crate::plain::instruction::*;
