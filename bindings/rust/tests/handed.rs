@@ -1,9 +1,9 @@
 //! What is handed out: how long it lives, and what a URI or a URL that is none means.
 
-use keddorimp::basex::{read_response, End, Item, Kind, ResponseWriter};
+use keddorimp::basex::{read_response, End, Item, Items, Kind, Request, Response, ResponseWriter};
 use keddorimp::sedna::{
-    read, write_empty, write_item, Assembly, Body, Cut, Gathering, Instruction, Joined, Side,
-    MESSAGE_MAX,
+    read, write_empty, write_item, Assembly, Body, Cut, Gathering, Instruction, Joined, Message,
+    Session, Settings, Side, MESSAGE_MAX,
 };
 use keddorimp::Refusal;
 
@@ -119,4 +119,11 @@ fn a_url_that_is_none_or_empty() {
         let start = cut.write_part(0, &mut out).unwrap();
         assert_eq!(read(Side::Server, start).unwrap().0.body, body);
     }
+}
+
+#[test]
+fn all_can_be_handed_to_another_thread() {
+    fn free<T: Send + Sync>() {}
+    free::<(Session, Assembly, Message, Joined, Cut, Settings)>();
+    free::<(Request, Response, Items, ResponseWriter, Refusal)>();
 }

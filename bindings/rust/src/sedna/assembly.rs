@@ -109,10 +109,10 @@ impl Assembly {
     /// does not take there, and with 12 where the buffer is too short. After a 12 the gathering is
     /// spoilt, and all its parts and its end are refused with 12, until a new one is opened.
     ///
-    /// A buffer that has become longer is as good as the one before, if it holds the same at its
-    /// front. One that is shorter than what was gathered is too short for every part, even an empty
-    /// one, and for the end. Of another buffer, the front part that was to be gathered is handed
-    /// out, whatever stands there.
+    /// A longer buffer is as good as the one before, if the same stands at its front. One that is
+    /// shorter than what was gathered is too short for every part, even an empty one, and for the
+    /// end. Any other buffer is taken for the same one: what is handed out then is its front part,
+    /// whatever stood there.
     pub fn join<'b>(
         &mut self,
         buffer: &'b mut [u8],
