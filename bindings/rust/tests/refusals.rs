@@ -94,6 +94,23 @@ fn r9_out_of_order() {
     assert_eq!(joined, Err(Refusal::OutOfOrder));
 }
 
+/// What the server sends at the client's turn is refused as soon as it is offered, ErrorResponse
+/// aside; and the turn is still the client's.
+#[test]
+fn r9_out_of_turn() {
+    let start_up = message(Instruction::START_UP, 0, &[]);
+    let asked = message(Instruction::SEND_SESSION_PARAMETERS, 0, &[]);
+    let error = message(Instruction::ERROR_RESPONSE, 9, &[0; 9]);
+    let mut session = Session::new();
+    assert_eq!(session.step(Side::Server, &error), Err(Refusal::OutOfOrder));
+    session.step(Side::Client, &start_up).unwrap();
+    session.step(Side::Server, &asked).unwrap();
+    assert_eq!(session.step(Side::Server, &asked), Err(Refusal::OutOfOrder));
+    assert_eq!(session.turn(), Some(Side::Client));
+    session.step(Side::Server, &error).unwrap();
+    assert_eq!((session.turn(), session.closed()), (None, true));
+}
+
 #[test]
 fn r10_no_room() {
     let mut out = [0xA5; 7];

@@ -18,6 +18,7 @@ extern "C" {
         fields: *mut u64, fields_len: usize,
     ) -> u64;
     fn kdr_closed(session: *const u8, session_len: usize) -> u8;
+    fn kdr_turn(session: *const u8, session_len: usize) -> u8;
     fn kdr_option(
         bytes: *const u8, bytes_len: usize, start: usize, len: usize, k: usize,
         fields: *mut u64, fields_len: usize,
@@ -85,6 +86,12 @@ pub fn step(
 pub fn closed(session: &[u8; 2]) -> bool {
     // SAFETY: the session is a slice borrowed for the call.
     unsafe { kdr_closed(session.as_ptr(), session.len()) == 1 }
+}
+
+/// Whose turn it is: 1 the client's, 2 the server's, 0 where the conversation is over.
+pub fn turn(session: &[u8; 2]) -> u8 {
+    // SAFETY: the session is a slice borrowed for the call.
+    unsafe { kdr_turn(session.as_ptr(), session.len()) }
 }
 
 /// Id, start and length of the option number `k` among the pairs from `start` to the end.

@@ -5,7 +5,7 @@ use crate::same::{same, side};
 use crate::tally::Tally;
 use bench::inputs::{conversations, each_message, ways, Input};
 use bench::plain;
-use keddorimp::sedna::Session;
+use keddorimp::sedna::{Instruction, Session};
 
 pub fn run() -> Tally {
     let mut tally = Tally::new("session steps");
@@ -24,6 +24,7 @@ pub fn run() -> Tally {
 
 fn follow(offers: &[Input], tally: &mut Tally) -> Both {
     let mut both = Both { ours: Session::new(), plain: plain::Session::FRESH };
+    assert_eq!(both.ours.turn(), both.plain.turn().map(side));
     for input in offers {
         both.offer(input, tally);
     }
@@ -42,8 +43,17 @@ impl Both {
         let before = self.clone();
         let ours = self.ours.step(side(input.side), &input.bytes);
         let plain = self.plain.step(input.side, &input.bytes);
-        let alike = same(&ours, &plain) && self.ours.closed() == self.plain.closed();
-        let kept = ours.is_ok() || self.ours == before.ours;
+        let alike = same(&ours, &plain)
+            && self.ours.closed() == self.plain.closed()
+            && self.ours.turn() == self.plain.turn().map(side);
+        let kept = match ours {
+            Ok((message, _)) => {
+                // Who has the turn goes on, or an error comes.
+                message.instruction == Instruction::ERROR_RESPONSE
+                    || before.ours.turn() == Some(side(input.side))
+            }
+            Err(_) => self.ours == before.ours,
+        };
         assert!(
             alike && kept,
             "from the {:?} in {:?}, now {:?}: {ours:?}, plain {plain:?}\n{}",
