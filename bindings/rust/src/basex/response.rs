@@ -15,6 +15,8 @@ pub struct Response<'b, 'o> {
     pub items: Items<'b, 'o>,
     /// All else.
     pub end: End<'o>,
+    /// The error, where the library has placed it.
+    failure: Option<&'o [u8]>,
 }
 
 /// All of a response but its items.
@@ -31,15 +33,23 @@ pub struct End<'a> {
 }
 
 impl<'o> Response<'_, 'o> {
-    /// The error where the request has failed, wherever its kind has it.
+    /// The error where the request has failed, wherever its kind has it: behind the status, or for
+    /// COMMAND, CREATE, ADD, PUT and PUTBINARY as the last text.
+    ///
+    /// ```
+    /// use keddorimp::basex::{read_response, Kind};
+    ///
+    /// let mut out = [0; 16];
+    /// let (response, _) = read_response(Kind::COMMAND, b"\0no db\0\x01", &mut out)?;
+    /// assert_eq!(response.failure(), Some(&b"no db"[..]));
+    /// let (response, _) = read_response(Kind::COMMAND, b"\0done\0\x00", &mut out)?;
+    /// assert_eq!(response.failure(), None);
+    /// let (response, _) = read_response(Kind::QUERY, b"\0\x01stopped\0", &mut out)?;
+    /// assert_eq!(response.failure(), Some(&b"stopped"[..]));
+    /// # Ok::<(), keddorimp::Refusal>(())
+    /// ```
     pub fn failure(&self) -> Option<&'o [u8]> {
-        let End { texts: [first, second], status, error } = self.end;
-        let text = match self.kind {
-            Kind::CREATE | Kind::ADD | Kind::PUT | Kind::PUT_BINARY => first,
-            kind if kind.is_command() => second,
-            _ => error,
-        };
-        (status == 1).then_some(text)
+        self.failure
     }
 }
 
@@ -64,11 +74,13 @@ pub fn read_response<'b, 'o>(
     bytes: &'b [u8],
     out: &'o mut [u8],
 ) -> Result<(Response<'b, 'o>, usize), Refusal> {
-    let (count, [first, second, items, listed, status, error]) =
-        raw::read_response(kind.0, bytes, out)?;
-    let mut rest: &[u8] = out;
+    let (count, told) = raw::read_response(kind.0, bytes, out)?;
+    let out: &[u8] = out;
+    let failure = raw::error(kind.0, &told)?.map(|[start, len]| &out[start..][..len]);
+    let [first, second, items, listed, status, error] = told.map(|number| number as usize);
+    let mut rest = out;
     let texts = [first, second].map(|len| split(&mut rest, len));
     let items = Items::new(kind, bytes, split(&mut rest, listed), items);
     let end = End { texts, status: status as u8, error: split(&mut rest, error) };
-    Ok((Response { kind, items, end }, count))
+    Ok((Response { kind, items, end, failure }, count))
 }

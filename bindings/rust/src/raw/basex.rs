@@ -29,6 +29,9 @@ extern "C" {
         kind: u8, bytes: *const u8, len: usize, out: *mut u8, out_len: usize,
         told: *mut u64, told_len: usize,
     ) -> u64;
+    fn kdr_basex_error(
+        kind: u8, response: *const u64, response_len: usize, place: *mut u64, place_len: usize,
+    ) -> u64;
     fn kdr_basex_item(
         kind: u8, bytes: *const u8, len: usize, at: usize, told: *mut u64, told_len: usize,
     ) -> u64;
@@ -114,14 +117,13 @@ pub fn write_request(
     })
 }
 
-/// The bytes read; how long the two texts ahead of the status are, how many items there are and how
-/// long all their texts are, the status, and how long the error is.
+/// What is told of a response: how long the two texts ahead of the status are, how many items there
+/// are and how long all their texts are, the status, and how long the error is.
+pub type Told = [u64; 6];
+
+/// The bytes read, and what is told.
 #[rustfmt::skip]
-pub fn read_response(
-    kind: u8,
-    bytes: &[u8],
-    out: &mut [u8],
-) -> Result<(usize, [usize; 6]), Refusal> {
+pub fn read_response(kind: u8, bytes: &[u8], out: &mut [u8]) -> Result<(usize, Told), Refusal> {
     let mut numbers = [0; 6];
     // SAFETY: both are slices borrowed for the call, the output alone; the numbers are an array of
     // this function.
@@ -131,7 +133,18 @@ pub fn read_response(
             numbers.as_mut_ptr(), numbers.len(),
         )
     };
-    told(code, numbers)
+    Ok((answer(code)?, numbers))
+}
+
+/// Where the error starts in the output that the response was read into, and how long it is; none
+/// where the request has not failed.
+pub fn error(kind: u8, response: &Told) -> Result<Option<[usize; 2]>, Refusal> {
+    let mut place = [0; 2];
+    let (to, room) = (place.as_mut_ptr(), place.len());
+    // SAFETY: the response is a slice borrowed for the call, the place an array of this function.
+    let code = unsafe { kdr_basex_error(kind, response.as_ptr(), response.len(), to, room) };
+    let (failed, place) = told(code, place)?;
+    Ok((failed == 1).then_some(place))
 }
 
 /// The bytes of the item at `at`, 0 at the end of the items; its id, and how long its URI and its

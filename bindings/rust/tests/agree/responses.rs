@@ -87,15 +87,16 @@ fn same(kind: u8, bytes: &[u8], response: &Response, plain: &plain::Response) ->
     let items = items(kind, bytes, plain.listed);
     // "with status 01 the last string is the error", and the others have one behind it.
     let failure = match form.has_error(1) {
-        true => plain.error,
-        false => plain.texts[form.texts() - 1],
+        true => error,
+        false => texts[form.texts() - 1],
     };
+    let place = |text: &[u8]| text.as_ptr_range();
     response.kind == Kind(kind)
         && texts == plain.texts
         && (response.items.len(), items.len()) == (plain.items, plain.items)
         && response.items.clone().eq(items)
         && (status, error) == (plain.status, plain.error)
-        && response.failure() == (status == 1).then_some(failure)
+        && response.failure().map(place) == (status == 1).then(|| place(failure))
 }
 
 /// The items of a response, none where it has no items; their texts taken from the listed ones.
