@@ -39,6 +39,7 @@ extern "C" {
         fields: *mut u64, fields_len: usize,
     ) -> u64;
     fn kdr_closed(session: *const u8, session_len: usize) -> u8;
+    fn kdr_turn(session: *const u8, session_len: usize) -> u8;
     fn kdr_option(
         bytes: *const u8, len: usize, start: usize, region_len: usize, k: usize,
         fields: *mut u64, fields_len: usize,
@@ -116,6 +117,12 @@ pub fn step(session: &mut [u8], side: u8, bytes: &[u8], fields: &mut [u64]) -> R
 pub fn closed(session: &[u8]) -> bool {
     // SAFETY: as in `read`.
     unsafe { kdr_closed(session.as_ptr(), session.len()) == 1 }
+}
+
+/// 1 at the client's turn, 2 at the server's, 0 where the conversation has ended.
+pub fn turn(session: &[u8]) -> u8 {
+    // SAFETY: as in `read`.
+    unsafe { kdr_turn(session.as_ptr(), session.len()) }
 }
 
 /// 1 and id, start and length of the k-th pair in `fields`, or 0 for none.

@@ -1,11 +1,12 @@
-//! BaseX responses: read, walked item by item and written again.
+//! BaseX responses: read, asked for their error, walked item by item and written again.
 
 use super::replies;
 use super::told::{both, rooms, too_few_numbers, Answer, FILL};
 use super::{hex, Disagreement, Tally};
 use crate::called::basex as called;
-use crate::library::basex::{self as library, ITEM, RESPONSE};
+use crate::library::basex::{self as library, ITEM, PLACE, RESPONSE};
 use bench::inputs::basex::{known, responses_read, FULL, QUERY, RESULTS};
+use bench::plain::basex::kind::Form;
 use bench::plain::refusal::{BAD_ESCAPE, MORE_NEEDED, NOT_ALLOWED, NO_ROOM, UNKNOWN};
 
 pub fn compare(tally: &mut Tally) -> Result<(), Disagreement> {
@@ -16,12 +17,14 @@ pub fn compare(tally: &mut Tally) -> Result<(), Disagreement> {
             let _ = compare_reading(kind, &bytes, room, tally)?;
         }
         if let Ok((count, told)) = answer {
+            compare_error(kind, &told)?;
             written_again(kind, &bytes[..count], &told)?;
         }
         compare_items(kind, &bytes, tally)?;
     }
     few_numbers()?;
-    few_numbers_of_items()
+    few_numbers_of_items()?;
+    bad_calls_for_an_error()
 }
 
 /// The bytes of all texts.
@@ -48,6 +51,53 @@ fn compare_reading(
     )?;
     tally.responses_read.add(answer.map(|_| known(kind).map_or(0, |row| row.0.into())));
     Ok(answer)
+}
+
+/// Where the error stands among the texts of a failed request. "With status 01 the last string is
+/// the error" of CREATE and its kin, and of COMMAND; the others have one behind the status.
+fn compare_error(kind: u8, told: &[u64; RESPONSE]) -> Result<(), Disagreement> {
+    let [first, second, _, listed, status, error] = *told;
+    let [start, len] = match Form::of(kind) {
+        Some(Form::Stored) => [0, first],
+        Some(Form::Command) => [first, second],
+        _ => [first + second + listed, error],
+    };
+    let expected = if status == 1 { [start, len, FILL] } else { [FILL; PLACE + 1] };
+    let mut place = [FILL; PLACE + 1];
+    let answer = library::error(kind, told, &mut place);
+    match answer == Ok(status as usize) && place == expected {
+        true => Ok(()),
+        false => Err(format!(
+            "the error of {told:?} to {kind:02X}, not {expected:?}: {answer:?} {place:?}"
+        )),
+    }
+}
+
+/// Too few numbers of a response, a kind that is none, a status that is none, no room for the
+/// place: the first that is met is told. A request that has not failed needs no room.
+fn bad_calls_for_an_error() -> Result<(), Disagreement> {
+    let failed = |status| [1, 0, 0, 0, status, 3];
+    for (kind, status, told, lent, expected) in [
+        (0x01, 2, 0, 0, Err(NO_ROOM)),
+        (QUERY, 1, 5, PLACE, Err(NO_ROOM)),
+        (0x01, 2, RESPONSE, 0, Err(UNKNOWN)),
+        (0xFF, 0, RESPONSE, PLACE, Err(UNKNOWN)),
+        (QUERY, 2, RESPONSE, 0, Err(NOT_ALLOWED)),
+        (QUERY, u64::MAX, RESPONSE, PLACE, Err(NOT_ALLOWED)),
+        (QUERY, 1, RESPONSE, 0, Err(NO_ROOM)),
+        (QUERY, 1, RESPONSE, 1, Err(NO_ROOM)),
+        (QUERY, 0, RESPONSE, 0, Ok(0)),
+    ] {
+        let mut place = [FILL; PLACE];
+        let answer = library::error(kind, &failed(status)[..told], &mut place[..lent]);
+        if answer != expected || place != [FILL; PLACE] {
+            return Err(format!(
+                "the error to {kind:02X}, status {status}, {told} and {lent} numbers, \
+                 not {expected:?}: {answer:?} {place:?}"
+            ));
+        }
+    }
+    Ok(())
 }
 
 /// Items from the front up to the end of them or to a refusal, and at places behind the bytes, as

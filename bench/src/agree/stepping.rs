@@ -1,4 +1,5 @@
-//! The session steps: answer, numbers, what becomes of the record, and whether it is closed.
+//! The session steps: answer, numbers, what becomes of the record, whether it is closed, and whose
+//! turn it is.
 
 use super::reading::{flat, Lent, FILL};
 use super::{hex, Disagreement, Tally};
@@ -45,10 +46,21 @@ impl Both {
     fn fresh() -> Result<Self, Disagreement> {
         let mut library = [0xA5; SESSION];
         let answer = library::fresh(&mut library);
-        if answer != Ok(0) || library::closed(&library) {
-            return Err(format!("a fresh session: {answer:?} {library:?}, or it is closed"));
+        let both = Self { plain: Session::FRESH, library, accepted: Vec::new() };
+        let [plain, told] = both.where_it_stands();
+        if answer != Ok(0) || plain != told {
+            return Err(format!(
+                "a fresh session: {answer:?} {library:?}, {told:?}, not {plain:?}"
+            ));
         }
-        Ok(Self { plain: Session::FRESH, library, accepted: Vec::new() })
+        Ok(both)
+    }
+
+    /// Whether it is closed and whose turn it is, as each of the two tells.
+    fn where_it_stands(&self) -> [(bool, u8); 2] {
+        let turn = self.plain.turn().map_or(0, |side| side as u8);
+        let library = (library::closed(&self.library), library::turn(&self.library));
+        [(self.plain.closed(), turn), library]
     }
 
     fn offer(&mut self, input: &Input, tally: &mut Tally) -> Result<(), Disagreement> {
@@ -61,17 +73,18 @@ impl Both {
             expected[..FIELDS].copy_from_slice(&flat(&input.bytes, message));
         }
         let answer = plain.map(|message| message.count);
-        let closed = [self.plain.closed(), library::closed(&self.library)];
+        let stands = self.where_it_stands();
         let kept = answer.is_ok() || self.library == before;
-        if library != answer || lent != expected || closed[0] != closed[1] || !kept {
+        if library != answer || lent != expected || stands[0] != stands[1] || !kept {
             return Err(format!(
                 "offered by the {:?} in {phase:?}, after {:?}\n\
-                 plain:   {answer:?} {expected:?} closed {}\n\
-                 library: {library:?} {lent:?} closed {}, {before:?} became {:?}\ninput: {}",
+                 plain:   {answer:?} {expected:?} closed, turn {:?}\n\
+                 library: {library:?} {lent:?} closed, turn {:?}, {before:?} became {:?}\n\
+                 input: {}",
                 input.side,
                 self.accepted,
-                closed[0],
-                closed[1],
+                stands[0],
+                stands[1],
                 self.library,
                 hex(&input.bytes)
             ));
@@ -82,13 +95,18 @@ impl Both {
     }
 }
 
-/// Short records are 10; a side that is none is 8, and too few numbers for an accepted message 10.
+/// Short records are 10, and nobody's turn; a side that is none is 8, and too few numbers for an
+/// accepted message 10.
 fn bad_calls() -> Result<(), Disagreement> {
     for room in 0..SESSION {
         let mut record = [0xA5; SESSION];
         let answer = library::fresh(&mut record[..room]);
         if answer != Err(10) || record != [0xA5; SESSION] {
             return Err(format!("a fresh session in {room} bytes: {answer:?} {record:?}"));
+        }
+        let turn = library::turn(&[0; SESSION][..room]);
+        if turn != 0 {
+            return Err(format!("the turn of {room} bytes: {turn}"));
         }
     }
     let start_up = [0, 0, 0, 110, 0, 0, 0, 0];

@@ -4,7 +4,7 @@ mod requests;
 mod responses;
 
 pub use requests::{read_request, write_request, REQUEST};
-pub use responses::{item, read_response, write_end, write_item, ITEM, RESPONSE};
+pub use responses::{error, item, read_response, write_end, write_item, ITEM, PLACE, RESPONSE};
 
 use super::answer;
 use bench::plain::basex::Place;

@@ -3,15 +3,19 @@
 use super::answer;
 
 /// How many numbers are told of a response that was read: two lengths, items and their length,
-/// status, the error's length; and of an item: id, two lengths.
+/// status, the error's length; of an item: id, two lengths; and of an error: start and length.
 pub const RESPONSE: usize = 6;
 pub const ITEM: usize = 3;
+pub const PLACE: usize = 2;
 
 #[rustfmt::skip]
 extern "C" {
     fn kdr_basex_read_response(
         kind: u8, bytes: *const u8, len: usize, out: *mut u8, out_len: usize,
         told: *mut u64, told_len: usize,
+    ) -> u64;
+    fn kdr_basex_error(
+        kind: u8, response: *const u64, response_len: usize, place: *mut u64, place_len: usize,
     ) -> u64;
     fn kdr_basex_item(
         kind: u8, bytes: *const u8, len: usize, at: usize, told: *mut u64, told_len: usize,
@@ -37,6 +41,18 @@ pub fn read_response(
         kdr_basex_read_response(
             kind, bytes.as_ptr(), bytes.len(), out.as_mut_ptr(), out.len(),
             told.as_mut_ptr(), told.len(),
+        )
+    })
+}
+
+/// Where the error of a response stands, of which these numbers were told; the answer is 1, or 0
+/// where the request has not failed.
+#[rustfmt::skip]
+pub fn error(kind: u8, response: &[u64], place: &mut [u64]) -> Result<usize, u8> {
+    // SAFETY: as in `library::read`.
+    answer(unsafe {
+        kdr_basex_error(
+            kind, response.as_ptr(), response.len(), place.as_mut_ptr(), place.len(),
         )
     })
 }
