@@ -17,8 +17,12 @@
  * argument behind the other. The proofs rest on what a caller in C has to see to: so many elements
  * are there and aligned for their type, and memory that a call may write (any pointer without
  * `const`) overlaps nothing else that the same call is lent. Where the number is 0 the pointer may
- * be NULL, which the tests try and no proof speaks of. The library keeps nothing between two calls
- * and allocates nothing.
+ * be NULL, which the tests try and no proof speaks of. A length that no memory has is the caller's
+ * error; only the calls that write a Sedna message whole answer 11 to (size_t)-1.
+ *
+ * Threads. The library keeps nothing between two calls and allocates nothing. So calls that are
+ * lent different memory may run at once, on any threads; calls that are lent the same memory, one
+ * of them to write it, need the caller's lock.
  *
  * Answers. An answer below 2^63 is a count (of bytes read or written, or of parts), one above it is
  * a refusal, its number on top of 2^63. A refusal leaves every lent byte and number as it was, with
@@ -40,26 +44,30 @@ extern "C" {
 /* The archives take a length in 64 bits: a line that does not compile where size_t has fewer. */
 typedef char kdr_a_length_has_64_bits[sizeof(size_t) == 8 ? 1 : -1];
 
+/* The version of this header and of the archives that it was written for. */
+#define KDR_VERSION_MAJOR 0
+#define KDR_VERSION_MINOR 1
+#define KDR_VERSION_PATCH 0
+#define KDR_VERSION "0.1.0"
+
 /* ---- Refusals ---- */
 
-/* Document 01, "Refusal numbers", in its words. */
+/* Document 01, "Refusal numbers"; kdr_refusal_text has its words. */
 enum kdr_refusal_number {
-    KDR_MORE_BYTES = 1,          /* more bytes are needed */
-    KDR_UNKNOWN_INSTRUCTION = 2, /* unknown instruction, or BaseX first byte */
-    KDR_OTHER_SIDE = 3,          /* instruction of the other side */
-    KDR_BODY_TOO_LONG = 4,       /* body length above 10,240 */
-    KDR_FIELD_CUT = 5,           /* the body ends inside a field */
-    KDR_STRING_FORMAT = 6,       /* string format byte not 0 */
-    KDR_BYTES_LEFT_OVER = 7,     /* bytes left over */
-    KDR_VALUE_NOT_ALLOWED = 8,   /* value not allowed */
-    KDR_OUT_OF_ORDER = 9,        /* no conversation goes on with this message; a part or an end that
-                                  * no open gathering takes */
-    KDR_NO_ROOM = 10,            /* lent output shorter than the bytes to be put there */
-    KDR_NO_ENCODING = 11,        /* value has no encoding (body above 10,240; BaseX command
-                                  * start) */
-    KDR_BUFFER_OVERRUN = 12,     /* item or statement longer than its gathering buffer */
-    KDR_BAD_ESCAPE = 13,         /* FF followed by a byte other than 00 or FF */
-    KDR_NO_SUCH_PART = 14        /* no such part of a cut */
+    KDR_MORE_BYTES = 1,
+    KDR_UNKNOWN_INSTRUCTION = 2,
+    KDR_OTHER_SIDE = 3,
+    KDR_BODY_TOO_LONG = 4,
+    KDR_FIELD_CUT = 5,
+    KDR_STRING_FORMAT = 6,
+    KDR_BYTES_LEFT_OVER = 7,
+    KDR_VALUE_NOT_ALLOWED = 8,
+    KDR_OUT_OF_ORDER = 9,
+    KDR_NO_ROOM = 10,
+    KDR_NO_ENCODING = 11,
+    KDR_BUFFER_OVERRUN = 12,
+    KDR_BAD_ESCAPE = 13,
+    KDR_NO_SUCH_PART = 14
 };
 
 /* What a refusal's number stands on top of. No slice is so long, so no count of its bytes is. */
@@ -77,10 +85,34 @@ static inline unsigned kdr_refusal(uint64_t answer)
     return kdr_refused(answer) ? (unsigned)(answer - KDR_REFUSED) : 0;
 }
 
+/* Document 01's words for the number of a refusal; any other number has none, and is told so. */
+static inline const char *kdr_refusal_text(unsigned number)
+{
+    switch (number) {
+    case KDR_MORE_BYTES: return "more bytes are needed";
+    case KDR_UNKNOWN_INSTRUCTION: return "unknown instruction, or BaseX first byte";
+    case KDR_OTHER_SIDE: return "instruction of the other side";
+    case KDR_BODY_TOO_LONG: return "body length above 10,240";
+    case KDR_FIELD_CUT: return "the body ends inside a field";
+    case KDR_STRING_FORMAT: return "string format byte not 0";
+    case KDR_BYTES_LEFT_OVER: return "bytes left over";
+    case KDR_VALUE_NOT_ALLOWED: return "value not allowed";
+    case KDR_OUT_OF_ORDER: return "no conversation goes on with this message; a part or an end "
+                                  "that no open gathering takes";
+    case KDR_NO_ROOM: return "lent output shorter than the bytes to be put there";
+    case KDR_NO_ENCODING: return "value has no encoding (body above 10,240; BaseX command start)";
+    case KDR_BUFFER_OVERRUN: return "item or statement longer than its gathering buffer";
+    case KDR_BAD_ESCAPE: return "FF followed by a byte other than 00 or FF";
+    case KDR_NO_SUCH_PART: return "no such part of a cut";
+    default: return "there is no such refusal";
+    }
+}
+
 /* ---- Sedna messages ---- */
 
-/* Who sent a message. */
+/* Who sent a message, and whose turn it is. */
 enum kdr_side {
+    KDR_NOBODY = 0, /* of a turn alone: nobody's */
     KDR_CLIENT = 1,
     KDR_SERVER = 2
 };
@@ -226,7 +258,9 @@ uint64_t kdr_option(const uint8_t *bytes, size_t bytes_len, size_t start, size_t
 /* Writing puts a message in front of `out`; the answer is how many bytes it has. One function for
  * each shape of body, and the instruction has to be one of that shape. Refused, for each of them: 2
  * for an instruction that document 01 does not have; 8 for one of another shape, and for a value
- * that is not allowed; 11 for a body above 10,240 bytes; 10 for an output that is too short. */
+ * that is not allowed; 11 for a body above 10,240 bytes; 10 for an output that is too short. A text
+ * of (size_t)-1 bytes, though no memory has so many, gets 11 (options 8, where their lengths do not
+ * add up to it), and no byte of it is read; the tests try that, and no proof speaks of it. */
 
 /* StartUp and the other 25 that have no body; only 2, 8 and 10 are left. */
 uint64_t kdr_write_empty(uint8_t *out, size_t out_len, uint32_t instruction);
@@ -272,7 +306,7 @@ uint64_t kdr_write_item_url(uint8_t *out, size_t out_len, uint32_t instruction,
 /* ---- The session (sedna_c) ---- */
 
 /* The bytes of a session. The caller keeps them from step to step and may copy them; they belong to
- * the library, and mean something only to the three functions here. */
+ * the library, and mean something only to the four functions here. */
 enum {
     KDR_SESSION_BYTES = 2
 };
@@ -290,6 +324,14 @@ uint64_t kdr_step(uint8_t *session, size_t session_len, uint8_t side,
 
 /* 1 where the conversation is over, else 0; 0 also where fewer than two bytes are lent. */
 uint8_t kdr_closed(const uint8_t *session, size_t session_len);
+
+/* Whose turn it is: KDR_CLIENT or KDR_SERVER; KDR_NOBODY where the conversation is over, and where
+ * fewer than two bytes are lent. The side at turn is the one to wait for. What the other has sent
+ * came ahead of its turn: the session takes ErrorResponse of the server at the client's turn (after
+ * StartUp), which ends the conversation, and refuses all else. On live streams offer that first,
+ * and stop at a 9: offered again later, it may be taken for the answer to what was asked after it
+ * was sent (bindings/c/gateway.c). */
+uint8_t kdr_turn(const uint8_t *session, size_t session_len);
 
 /* ---- Cutting (parts_c) ---- */
 
@@ -424,13 +466,16 @@ enum kdr_basex_string_field {
 };
 
 /* Judges the string that starts at `at`, and stores nothing of it. The answer is how many bytes it
- * takes in `bytes`, and `told` gets one number. Refused: 1 where its end is missing; 13 as soon as
- * an FF has a byte behind it that is neither 00 nor FF; last 10 where no number is lent. */
+ * takes in `bytes`, and `told` gets one number. Refused: 13 as soon as the pair is there, an FF and
+ * behind it a byte that is neither 00 nor FF, even where the end is missing; 1 where no such pair
+ * is there and the end is missing; last 10 where no number is lent. So 1 means that bytes to come
+ * may still make a string of it, here and wherever strings are read. */
 uint64_t kdr_basex_string_at(const uint8_t *bytes, size_t bytes_len, size_t at,
                              uint64_t *told, size_t told_len);
 
-/* The same, and the decoded string is put into `out` from `to` on. Refused: 1 and 13 as there; last
- * 10 where it does not fit or no number is lent. */
+/* The same, and the decoded string is put into `out` from `to` on; as many bytes there as `bytes`
+ * has are always enough. Refused: 13 and 1 as there; last 10 where it does not fit or no number is
+ * lent. */
 uint64_t kdr_basex_decode(const uint8_t *bytes, size_t bytes_len, size_t at,
                           uint8_t *out, size_t out_len, size_t to,
                           uint64_t *told, size_t told_len);
@@ -448,10 +493,11 @@ enum kdr_basex_request_field {
 };
 
 /* Reads the request at the front of `bytes`. The answer is how many bytes it has, and `told` gets
- * five numbers. Its decoded texts stand one behind the other in front of `out`; a COMMAND is one
- * text, its first byte included. Refused: 1 for no byte; 2 for a first byte that starts no request;
- * then 1 and 13, string by string; last 10 where the texts do not fit or five numbers are not
- * lent. */
+ * five numbers. Its decoded texts stand one behind the other in front of `out`, for which as many
+ * bytes as `bytes` has are always enough; a COMMAND is one text, its first byte included. Refused:
+ * 1 for no byte; 2 for a first byte that starts no request; then string by string, 13 as soon as
+ * the pair is there, 1 where an end is missing; last 10 where the texts do not fit or five numbers
+ * are not lent. */
 uint64_t kdr_basex_read_request(const uint8_t *bytes, size_t bytes_len,
                                 uint8_t *out, size_t out_len, uint64_t *told, size_t told_len);
 
@@ -469,7 +515,8 @@ uint64_t kdr_basex_write_request(uint8_t *out, size_t out_len, uint8_t kind,
 
 /* What is told of a response that was read. The texts ahead of its status are two for COMMAND, none
  * for RESULTS and FULL, and one for the others; of COMMAND, CREATE, ADD, PUT and PUTBINARY the last
- * of them is the error where the status is 1, and KDR_BASEX_RESPONSE_ERROR is 0. */
+ * of them is the error where the status is 1, and KDR_BASEX_RESPONSE_ERROR is 0. kdr_basex_error
+ * finds the error of any kind. */
 enum kdr_basex_response_field {
     KDR_BASEX_RESPONSE_LENGTH_1 = 0,
     KDR_BASEX_RESPONSE_LENGTH_2 = 1,
@@ -483,10 +530,34 @@ enum kdr_basex_response_field {
 /* Reads the response at the front of `bytes`, to a request whose first byte is `kind`. The answer
  * is how many bytes it has, and `told` gets six numbers. Its decoded texts stand one behind the
  * other in front of `out`: those ahead of the status, those of the items (of each, its URI where it
- * has one, and its text), and the error. Refused: 1 for no byte; 2 for a kind that is none; then 1,
- * 8 and 13, field by field; last 10 where the texts do not fit or six numbers are not lent. */
+ * has one, and its text), and the error; as many bytes as `bytes` has are always enough. Refused: 1
+ * for no byte; 2 for a kind that is none; then field by field, 8 as soon as the byte is there, 13
+ * as soon as the pair is there, 1 where a field or its end is missing; last 10 where the texts do
+ * not fit or six numbers are not lent. */
 uint64_t kdr_basex_read_response(uint8_t kind, const uint8_t *bytes, size_t bytes_len,
                                  uint8_t *out, size_t out_len, uint64_t *told, size_t told_len);
+
+/* Where the error of a response stands in the output that the response was read into. */
+enum kdr_basex_error_field {
+    KDR_BASEX_ERROR_START = 0,
+    KDR_BASEX_ERROR_LENGTH = 1,
+    KDR_BASEX_ERROR_FIELDS = 2
+};
+
+/* The error of a response that kdr_basex_read_response read: `response` are the six numbers that it
+ * told, and `kind` is the same. The answer is 1 where the request failed (status 1), and `place`
+ * gets two numbers; it is 0 where the status is 0, and nothing is told. Refused: 10 where fewer
+ * than six numbers are given; 2 for a kind that is none; 8 for a status above 1; last 10 where
+ * there is an error and fewer than two numbers are lent. */
+uint64_t kdr_basex_error(uint8_t kind, const uint64_t *response, size_t response_len,
+                         uint64_t *place, size_t place_len);
+
+/* A response to RESULTS or FULL may be larger than what one cares to hold, and reading it whole as
+ * it grows would judge it from the front again and again. Its items can be taken as they come
+ * instead: kdr_basex_item judges the one behind the last, kdr_basex_decode hands out its texts, and
+ * its bytes can be dropped. At the 00 behind the last item, kdr_basex_read_response of the same
+ * kind reads what is left (00, status, error) as a response without items (bindings/c/response.c).
+ * */
 
 /* What is told of an item. */
 enum kdr_basex_item_field {
@@ -498,10 +569,11 @@ enum kdr_basex_item_field {
 
 /* The item that starts at `at` in the bytes of a response to a request whose first byte is `kind`;
  * the first stands at 0. The answer is how many bytes it takes, so the next stands so many bytes
- * further on, and `told` gets three numbers. At the 00 behind the last item the answer is 0, and
- * nothing is told. Refused: 1 where no byte stands at `at`; 2 for a kind that is none; 8 for one
- * without items; then 1, 8 and 13, field by field; last 10 where fewer than three numbers are
- * lent. */
+ * further on, and `told` gets three numbers. It is the byte of its id, its URI where it has one,
+ * and its text. At the 00 behind the last item the answer is 0, and nothing is told. Refused: 1
+ * where no byte stands at `at`; 2 for a kind that is none; 8 for one without items; then field by
+ * field, 8 as soon as the byte is there, 13 as soon as the pair is there, 1 where a string's end is
+ * missing; last 10 where fewer than three numbers are lent. */
 uint64_t kdr_basex_item(uint8_t kind, const uint8_t *bytes, size_t bytes_len, size_t at,
                         uint64_t *told, size_t told_len);
 

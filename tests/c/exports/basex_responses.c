@@ -1,4 +1,4 @@
-/* BaseX responses, and their items one by one. */
+/* BaseX responses, their errors, and their items one by one. */
 #include "check.h"
 
 /* The response, with other bytes behind it, has those texts and is told so; 1 where its last byte
@@ -47,6 +47,80 @@ static void check_reading_responses(void)
     RESPONSE_REFUSED(KDR_BAD_ESCAPE, KDR_BASEX_QUERY, "FF41");
 }
 
+/* Where the error of a response stands in its texts, which were read in an output as long as the
+ * bytes: told with just two numbers lent, 10 with one; where the status is 0, nothing is told. */
+static void check_error_of(uint8_t kind, const char *hex, const char *error)
+{
+    uint64_t response[KDR_BASEX_RESPONSE_FIELDS], *place = lent.numbers;
+    uint8_t bytes[64], out[64];
+    size_t n = from_hex(bytes, hex);
+    CHECK(kdr_basex_read_response(kind, bytes, n, out, n, response, 6) == n);
+    lend();
+    if (error == NULL) {
+        CHECK(kdr_basex_error(kind, response, 6, place, KDR_BASEX_ERROR_FIELDS) == 0);
+        CHECK(kdr_basex_error(kind, response, 6, NULL, 0) == 0);
+        CHECK(ALL_LEFT_ALONE);
+    } else {
+        CHECK(kdr_basex_error(kind, response, 6, place, KDR_BASEX_ERROR_FIELDS) == 1);
+        CHECK(left_alone(place + 2, sizeof lent.numbers - 2 * sizeof *place));
+        CHECK(place[KDR_BASEX_ERROR_LENGTH] == strlen(error));
+        CHECK(memcmp(out + place[KDR_BASEX_ERROR_START], error, strlen(error)) == 0);
+        REFUSED(KDR_NO_ROOM, kdr_basex_error(kind, response, 6, place, 1));
+    }
+    REFUSED(KDR_NO_ROOM, kdr_basex_error(kind, response, 5, place, 2));
+}
+
+/* Each kind, with both statuses: the same texts ahead of the status, and the error where the kind
+ * has it. */
+static void check_errors(void)
+{
+    const uint8_t one_text[] = {KDR_BASEX_CREATE, KDR_BASEX_ADD, KDR_BASEX_PUT,
+                                KDR_BASEX_PUTBINARY};
+    const uint8_t queries[] = {KDR_BASEX_QUERY,   KDR_BASEX_CLOSE,   KDR_BASEX_BIND,
+                               KDR_BASEX_EXECUTE, KDR_BASEX_INFO,    KDR_BASEX_OPTIONS,
+                               KDR_BASEX_CONTEXT, KDR_BASEX_UPDATING};
+    for (unsigned kind = KDR_BASEX_COMMAND; kind <= 0xFE; kind++) {
+        check_error_of((uint8_t)kind, "FF0061 00 6E6F 00 00", NULL);
+        check_error_of((uint8_t)kind, "FF0061 00 6E6F 00 01", "no");
+    }
+    for (size_t i = 0; i < sizeof one_text; i++) {
+        check_error_of(one_text[i], "6E6F 00 00", NULL);
+        check_error_of(one_text[i], "6E6F 00 01", "no");
+    }
+    for (size_t i = 0; i < sizeof queries; i++) {
+        check_error_of(queries[i], "616263 00 00", NULL);
+        check_error_of(queries[i], "616263 00 01 6E6F 00", "no");
+    }
+    check_error_of(KDR_BASEX_RESULTS, "34 31 00 0C 3C3E 00 00 00", NULL);
+    check_error_of(KDR_BASEX_RESULTS, "34 31 00 0C 3C3E 00 00 01 6E6F 00", "no");
+    check_error_of(KDR_BASEX_RESULTS, "00 01 6E6F 00", "no"); /* what is left behind the items */
+    check_error_of(KDR_BASEX_FULL, "0C 75 00 74 00 00 00", NULL);
+    check_error_of(KDR_BASEX_FULL, "0C 75 00 74 00 00 01 6E6F 00", "no");
+    check_error_of(KDR_BASEX_FULL, "00 01 00", ""); /* an error may be empty */
+}
+
+/* Each refusal, and which is ahead of which: 10 for the response's numbers, 2, 8, 10. */
+static void check_error_refusals(void)
+{
+    uint64_t response[] = {4, 2, 0, 0, 2, 0}, *place = lent.numbers;
+    unsigned known = 0;
+    REFUSED(KDR_NO_ROOM, kdr_basex_error(0x01, response, 5, place, 2));
+    REFUSED(KDR_NO_ROOM, kdr_basex_error(0x01, NULL, 0, NULL, 0));
+    REFUSED(KDR_UNKNOWN_INSTRUCTION, kdr_basex_error(0x01, response, 6, place, 1));
+    REFUSED(KDR_VALUE_NOT_ALLOWED, kdr_basex_error(KDR_BASEX_COMMAND, response, 6, place, 1));
+    response[KDR_BASEX_RESPONSE_STATUS] = UINT64_MAX;
+    REFUSED(KDR_VALUE_NOT_ALLOWED, kdr_basex_error(KDR_BASEX_QUERY, response, 6, place, 2));
+    response[KDR_BASEX_RESPONSE_STATUS] = 1;
+    REFUSED(KDR_NO_ROOM, kdr_basex_error(KDR_BASEX_COMMAND, response, 6, place, 1));
+    REFUSED(KDR_NO_ROOM, kdr_basex_error(KDR_BASEX_COMMAND, response, 6, NULL, 0));
+    for (unsigned kind = 0; kind <= 0xFF; kind++) {
+        uint64_t answer = kdr_basex_error((uint8_t)kind, response, 6, place, 2);
+        known += answer == 1;
+        CHECK(answer == 1 || answer == KDR_REFUSED + KDR_UNKNOWN_INSTRUCTION);
+    }
+    CHECK(known == 14 + (0xFE - 0x20 + 1));
+}
+
 /* The items of a response, one by one, as FULL and as RESULTS understand the same bytes. */
 static void check_items(void)
 {
@@ -69,7 +143,7 @@ static void check_items(void)
     REFUSED(KDR_MORE_BYTES, kdr_basex_item(full, bytes, 5, 0, t, 3));
     REFUSED(KDR_MORE_BYTES, kdr_basex_item(full, bytes, n, SIZE_MAX, NULL, 0));
     REFUSED(KDR_VALUE_NOT_ALLOWED, kdr_basex_item(full, bytes, n, 1, t, 2));
-    REFUSED(KDR_BAD_ESCAPE, kdr_basex_item(results, bad, 3, 0, t, 2));
+    REFUSED(KDR_BAD_ESCAPE, kdr_basex_item(results, bad, 3, 0, t, 2)); /* its end is missing too */
     REFUSED(KDR_UNKNOWN_INSTRUCTION, kdr_basex_item(0x01, bytes, n, n - 1, t, 2));
     REFUSED(KDR_VALUE_NOT_ALLOWED, kdr_basex_item(KDR_BASEX_QUERY, bytes, n, n - 1, t, 2));
     REFUSED(KDR_MORE_BYTES, kdr_basex_item(0x01, bytes, n, n, t, 2));
@@ -119,6 +193,8 @@ static void check_writing_ends(void)
 void check_basex_responses(void)
 {
     check_reading_responses();
+    check_errors();
+    check_error_refusals();
     check_items();
     check_writing_items();
     check_writing_ends();

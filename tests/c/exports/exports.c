@@ -2,6 +2,7 @@
  * and checks the answers and all lent memory. Prints how many checks passed, or the first that
  * failed. This file has document 01's worked examples and what the tests share. */
 #include "check.h"
+#include <limits.h>
 #include <stdio.h>
 #include <stdlib.h>
 
@@ -110,6 +111,24 @@ static void check_examples(void)
     REFUSED(KDR_MORE_BYTES, kdr_basex_string_at(bad_escape, 1, 0, lent.numbers, 1));
 }
 
+/* "Refusal numbers", given when. */
+static const char *const WORDS[] = {
+    "more bytes are needed",
+    "unknown instruction, or BaseX first byte",
+    "instruction of the other side",
+    "body length above 10,240",
+    "the body ends inside a field",
+    "string format byte not 0",
+    "bytes left over",
+    "value not allowed",
+    "no conversation goes on with this message; a part or an end that no open gathering takes",
+    "lent output shorter than the bytes to be put there",
+    "value has no encoding (body above 10,240; BaseX command start)",
+    "item or statement longer than its gathering buffer",
+    "FF followed by a byte other than 00 or FF",
+    "no such part of a cut",
+};
+
 /* The refusals' numbers, and the answer convention at its edges. */
 static void check_answers(void)
 {
@@ -125,9 +144,31 @@ static void check_answers(void)
     CHECK(kdr_refusal(KDR_REFUSED + KDR_NO_SUCH_PART) == 14);
 }
 
-int main(void)
+/* Document 01's words, and the version as numbers and as a text. */
+static void check_words(void)
 {
+    char version[16];
+    for (unsigned number = 1; number <= 14; number++) {
+        CHECK(strcmp(kdr_refusal_text(number), WORDS[number - 1]) == 0);
+    }
+    CHECK(strcmp(kdr_refusal_text(0), "there is no such refusal") == 0);
+    CHECK(strcmp(kdr_refusal_text(15), "there is no such refusal") == 0);
+    CHECK(strcmp(kdr_refusal_text(UINT_MAX), "there is no such refusal") == 0);
+    snprintf(version, sizeof version, "%d.%d.%d", KDR_VERSION_MAJOR, KDR_VERSION_MINOR,
+             KDR_VERSION_PATCH);
+    CHECK(strcmp(version, KDR_VERSION) == 0);
+}
+
+/* With an argument, only prints which functions are lent how many slices here. */
+int main(int argc, char **argv)
+{
+    (void)argv;
+    if (argc > 1) {
+        print_lending();
+        return 0;
+    }
     check_answers();
+    check_words();
     check_examples();
     check_messages();
     check_sessions();
@@ -136,6 +177,7 @@ int main(void)
     check_basex_strings();
     check_basex_requests();
     check_basex_responses();
+    check_lending();
     printf("%lu checks passed\n", checks);
     return 0;
 }

@@ -1,5 +1,6 @@
 /* Reading and writing messages: kdr_read, kdr_option and the eight writers. */
 #include "check.h"
+#include <stdlib.h>
 
 /* Document 01's table: the header's name, the number, who sends it, its body. */
 static const struct row {
@@ -205,6 +206,31 @@ static void check_longest(void)
     REFUSED(KDR_NO_ENCODING, kdr_write_item_url(out, room, 355, 1, 0, text, 28, text, 10200));
 }
 
+/* A caller that hands -1 on as a length gets 11 and nothing is written, whatever the room: 11 is
+ * ahead of 10, and a length is held against 10,240 before anything is added to it. Options are 8
+ * where their lengths do not add up to it, and 11 where they do. Of the text not even the one byte
+ * that is there is read. */
+static void check_no_length(void)
+{
+    const uint32_t ids[] = {7};
+    const size_t one[] = {1}, none[] = {SIZE_MAX};
+    uint8_t *text = malloc(1), *out = lent.out;
+    for (size_t n = 0; n <= room; n += room) {
+        REFUSED(KDR_NO_ENCODING, kdr_write_text(out, n, 360, text, SIZE_MAX));
+        REFUSED(KDR_NO_ENCODING, kdr_write_statement(out, n, 300, 0, text, SIZE_MAX));
+        REFUSED(KDR_NO_ENCODING, kdr_write_coded(out, n, 100, 1, text, SIZE_MAX));
+        REFUSED(KDR_NO_ENCODING, kdr_write_item(out, n, 355, 1, 0, text, SIZE_MAX));
+        REFUSED(KDR_NO_ENCODING, kdr_write_item_url(out, n, 355, 1, 0, text, SIZE_MAX, text, 1));
+        REFUSED(KDR_NO_ENCODING, kdr_write_item_url(out, n, 355, 1, 0, text, 1, text, SIZE_MAX));
+        REFUSED(KDR_NO_ENCODING, kdr_write_session(out, n, 120, 4, 0, text, SIZE_MAX, text, 1));
+        REFUSED(KDR_NO_ENCODING, kdr_write_session(out, n, 120, 4, 0, text, 1, text, SIZE_MAX));
+        REFUSED(KDR_VALUE_NOT_ALLOWED,
+                kdr_write_options(out, n, 530, ids, 1, one, 1, text, SIZE_MAX));
+        REFUSED(KDR_NO_ENCODING, kdr_write_options(out, n, 530, ids, 1, none, 1, text, SIZE_MAX));
+    }
+    free(text);
+}
+
 /* 2 ahead of 8, 8 ahead of 11, 11 ahead of 10, for each writer that check_row does not cover so. */
 static void check_write_refusals(void)
 {
@@ -271,6 +297,7 @@ void check_messages(void)
     check_names();
     check_read_refusals();
     check_longest();
+    check_no_length();
     check_write_refusals();
     check_options();
 }

@@ -103,4 +103,9 @@ void check_basex_strings(void);
 void check_basex_requests(void);
 void check_basex_responses(void);
 
+/* Every function with just enough lent memory and with an element less; and their names, with how
+ * many slices each was lent. */
+void check_lending(void);
+void print_lending(void);
+
 #endif
