@@ -1,34 +1,42 @@
-/* An example: a gateway that follows the conversation of a Sedna client and a server on two byte
- * streams, prints each message and each finished item, and stops at the first refusal but 1.
+/* An example: a gateway between a Sedna client and a server, on two connected sockets.
  *
- *     gateway <CLIENT 3<SERVER     files, pipes or sockets: descriptors 0 and 3
+ *     gateway 3<>CLIENT 4<>SERVER     descriptors 3 and 4, to be read and written
  *
- * A line has the side, the instruction, and the answer: how many bytes the message has, or its
- * refusal. The last line is `closed` or `open`; the status is 1 where a refusal stopped it. Bytes
- * behind the message that ends the conversation are not looked at.
+ * A message is forwarded once the session, and joining, have accepted it, and never otherwise. The
+ * first refusal but 1 stops the gateway: what was refused is not acted on, not forwarded and not
+ * offered again. Standard output has a line for each message: the side, the instruction, and how
+ * many bytes it has, or its refusal; and a line for each finished item. The last line is `closed`
+ * or `open`. The status is 0 where the conversation is over, 1 where a refusal stopped it, 3 where
+ * a stream ended between two messages, and 2 where reading or writing failed. Bytes behind the
+ * message that ends the conversation are not looked at.
  */
 #define _POSIX_C_SOURCE 200809L
 
 #include "keddorimp.h"
 #include <ctype.h>
+#include <errno.h>
 #include <poll.h>
+#include <signal.h>
 #include <stdio.h>
 #include <stdlib.h>
 #include <string.h>
 #include <unistd.h>
 
-/* What one side has sent and no step has taken yet. Every message fits, so what is refused with 1
- * leaves room for more bytes. */
+enum status { CLOSED, REFUSED, FAILED, ENDED, WAITING, TAKEN }; /* the last two: it goes on */
+
+/* A side, and what it has sent and no step has taken yet. Every message fits, so what is refused
+ * with 1 leaves room for more bytes. */
 struct stream {
     uint8_t side;
-    int from;        /* -1 once it has ended */
-    uint64_t answer; /* to the message in front */
+    int socket;
+    bool ended; /* no more bytes come from it */
     size_t held;
     uint8_t bytes[KDR_MESSAGE_MAX];
 };
 
 /* All that is lent to the library besides. */
 struct gateway {
+    struct stream client, server;
     uint8_t session[KDR_SESSION_BYTES];
     uint64_t fields[KDR_FIELDS];
     uint64_t major; /* the version, which decides what an item is made of */
@@ -37,56 +45,74 @@ struct gateway {
     uint8_t item[1 << 20]; /* an item that is longer is refused with 12 */
 };
 
-/* What came of offering what is there; WAITING where bytes still to come may be taken. */
-enum outcome { TAKEN, WAITING, STOPPED };
-
 static void give_up(const char *what)
 {
     perror(what);
-    exit(2);
+    exit(FAILED);
 }
 
-/* Reads once from each stream that has something and has room for it; whether there was one. Waits
- * for that so many milliseconds at most, and without end for -1. A stream that is not ready is left
- * alone: a client that waits for the server sends nothing, and a read would wait with it. */
-static bool receive(struct stream both[2], int wait)
+/* Reads once from a stream that has something to be read: bytes, its end or its error. */
+static void receive(struct stream *s)
 {
-    struct pollfd ready[2] = {{.events = POLLIN}, {.events = POLLIN}};
-    for (int i = 0; i < 2; i++) {
-        bool room = both[i].held < sizeof both[i].bytes;
-        ready[i].fd = room ? both[i].from : -1; /* poll passes over -1 */
+    ssize_t n = read(s->socket, s->bytes + s->held, sizeof s->bytes - s->held);
+    if (n == -1 && errno != EINTR) {
+        give_up("read");
     }
-    if (poll(ready, 2, wait) == -1) {
-        give_up("poll");
+    s->ended = n == 0;
+    s->held += n > 0 ? (size_t)n : 0;
+}
+
+/* Reads what has come from either side; where `wait`, waits until something has. A stream that has
+ * nothing is left alone: a client that waits for the server sends nothing, and a read would wait
+ * with it. */
+static void receive_both(struct gateway *g, bool wait)
+{
+    struct stream *both[2] = {&g->client, &g->server};
+    struct pollfd ready[2];
+    for (int i = 0; i < 2; i++) {
+        bool more = !both[i]->ended && both[i]->held < sizeof both[i]->bytes;
+        ready[i] = (struct pollfd){.fd = more ? both[i]->socket : -1, .events = POLLIN};
+    }
+    if (poll(ready, 2, wait ? -1 : 0) == -1) {
+        if (errno != EINTR) {
+            give_up("poll");
+        }
+        return;
     }
     for (int i = 0; i < 2; i++) {
-        struct stream *s = &both[i];
-        if (ready[i].revents != 0) {
-            ssize_t n = read(s->from, s->bytes + s->held, sizeof s->bytes - s->held);
-            if (n == -1) {
-                give_up("read");
-            }
-            s->held += (size_t)n;
-            s->from = n == 0 ? -1 : s->from;
+        if (ready[i].fd != -1 && ready[i].revents != 0) {
+            receive(both[i]);
         }
     }
-    return ready[0].revents != 0 || ready[1].revents != 0;
+}
+
+/* Sends so many bytes from the front of a stream to the other side. */
+static void forward(const struct stream *from, const struct stream *to, size_t size)
+{
+    size_t sent = 0;
+    while (sent < size) {
+        ssize_t n = write(to->socket, from->bytes + sent, size - sent);
+        if (n == -1 && errno != EINTR) {
+            give_up("write");
+        }
+        sent += n > 0 ? (size_t)n : 0;
+    }
 }
 
 /* The line of the message in front of a stream; `-` where its instruction is not there yet. */
-static void tell(const struct stream *s)
+static void tell(const struct stream *s, uint64_t answer)
 {
     const uint8_t *b = s->bytes;
-    printf(s->side == KDR_CLIENT ? "C " : "S ");
+    fputs(s->side == KDR_CLIENT ? "C " : "S ", stdout);
     if (s->held < 4) {
-        printf("- ");
+        fputs("- ", stdout);
     } else {
         printf("%u ", (unsigned)b[0] << 24 | (unsigned)b[1] << 16 | (unsigned)b[2] << 8 | b[3]);
     }
-    if (kdr_refused(s->answer)) {
-        printf("refused %u\n", kdr_refusal(s->answer));
+    if (kdr_refused(answer)) {
+        printf("refused %u: %s\n", kdr_refusal(answer), kdr_refusal_text(kdr_refusal(answer)));
     } else {
-        printf("%u\n", (unsigned)s->answer);
+        printf("%u\n", (unsigned)answer);
     }
 }
 
@@ -123,75 +149,82 @@ static uint64_t join(struct gateway *g, const struct stream *s)
     }
 }
 
-/* Offers the message in front of a stream to the session; one that is taken is joined, told, and
- * dropped from the stream. The refusal's number, or 0. */
-static unsigned offer(struct gateway *g, struct stream *s)
+/* Offers the message in front of a stream to the session; one that is accepted, and joined where it
+ * belongs to an item, is forwarded, told and dropped. */
+static enum status offer(struct gateway *g, struct stream *from, const struct stream *to)
 {
-    uint64_t step = kdr_step(g->session, sizeof g->session, s->side, s->bytes, s->held,
-                             g->fields, KDR_FIELDS);
-    g->told[KDR_TOLD_WHAT] = KDR_NOTHING;
-    uint64_t joined = kdr_refused(step) ? step : join(g, s);
-    s->answer = kdr_refused(joined) ? joined : step;
-    if (kdr_refused(s->answer)) {
-        return kdr_refusal(s->answer);
+    uint64_t answer = kdr_step(g->session, KDR_SESSION_BYTES, from->side, from->bytes, from->held,
+                               g->fields, KDR_FIELDS);
+    uint64_t joined;
+    if (kdr_refusal(answer) == KDR_MORE_BYTES && (!from->ended || from->held == 0)) {
+        return from->ended ? ENDED : WAITING;
     }
-    tell(s);
+    g->told[KDR_TOLD_WHAT] = KDR_NOTHING;
+    joined = kdr_refused(answer) ? answer : join(g, from);
+    if (kdr_refused(joined)) {
+        tell(from, joined);
+        return REFUSED;
+    }
+    forward(from, to, answer);
+    tell(from, answer);
     if (g->told[KDR_TOLD_WHAT] != KDR_NOTHING) {
         tell_item(g->item, g->told);
     }
-    s->held -= step;
-    memmove(s->bytes, s->bytes + step, s->held);
-    return 0;
+    from->held -= answer;
+    memmove(from->bytes, from->bytes + answer, from->held);
+    return TAKEN;
 }
 
-/* Offers the client's message first, and where that is refused with 9 or is not whole yet, the
- * server's. Messages alternate by turn: where both sides have sent something, the one whose turn it
- * is not gets 9 and stays in its buffer. (At the client's turn the server may send ErrorResponse;
- * where a message of the client is there as well, the client's is taken.) */
-static enum outcome take_one(struct gateway *g, struct stream both[2])
+/* Takes the next message. What a side has sent while the other has the turn came ahead of its turn:
+ * it was sent before the message that passes the turn on was forwarded. So that is offered first;
+ * the session takes ErrorResponse of the server there, and refuses all else. Were the side at turn
+ * asked first, its GetNextItem would be taken, and a stray ItemPart that had come before it would
+ * be joined to the next item. What is not whole yet is waited for, for the same reason. (A stray
+ * that is still on its way when the turn passes cannot be told from an answer.) */
+static enum status take(struct gateway *g, uint8_t turn)
 {
-    bool waiting = false;
-    both[1].answer = 0;
-    for (int i = 0; i < 2; i++) {
-        unsigned refusal = offer(g, &both[i]);
-        if (refusal == 0) {
-            return TAKEN;
-        }
-        if (refusal != KDR_MORE_BYTES && refusal != KDR_OUT_OF_ORDER) {
-            return STOPPED; /* no byte to come and no turn makes this message good */
-        }
-        waiting = waiting || (refusal == KDR_MORE_BYTES && both[i].from != -1);
+    struct stream *due = turn == KDR_CLIENT ? &g->client : &g->server;
+    struct stream *other = turn == KDR_CLIENT ? &g->server : &g->client;
+    if (other->held > 0) {
+        return offer(g, other, due);
     }
-    return waiting ? WAITING : STOPPED;
+    if (other == &g->server && other->ended) {
+        return ENDED; /* no conversation ends without a message of the server */
+    }
+    return offer(g, due, other);
 }
 
-/* Takes messages until the conversation is over or nothing more can be taken. All that has come is
- * read before anything is offered, so the server's message is not taken for want of a read. */
-static enum outcome follow(struct gateway *g, struct stream both[2])
+/* Takes messages until the conversation is over or nothing more can be taken. Ahead of each, what
+ * has come is read, so that nothing that came ahead of its turn passes unseen. */
+static enum status relay(struct gateway *g)
 {
-    enum outcome outcome = TAKEN;
-    while (outcome != STOPPED && !kdr_closed(g->session, sizeof g->session)) {
-        while (receive(both, outcome == WAITING ? -1 : 0)) {
-            outcome = TAKEN;
+    enum status status = TAKEN;
+    kdr_fresh(g->session, KDR_SESSION_BYTES);
+    while (status == TAKEN || status == WAITING) {
+        uint8_t turn = kdr_turn(g->session, KDR_SESSION_BYTES);
+        if (turn == KDR_NOBODY) {
+            return CLOSED;
         }
-        outcome = take_one(g, both);
+        receive_both(g, status == WAITING);
+        status = take(g, turn);
     }
-    return outcome;
+    return status;
 }
 
 int main(void)
 {
     static struct gateway g; /* zeros are an assembly in which nothing is open */
-    static struct stream both[2] = {{.side = KDR_CLIENT}, {.side = KDR_SERVER, .from = 3}};
-    bool stopped, refused = false;
-    kdr_fresh(g.session, sizeof g.session);
-    stopped = follow(&g, both) == STOPPED;
-    for (int i = 0; i < 2 && stopped; i++) {
-        if (both[i].held > 0 && kdr_refused(both[i].answer)) {
-            tell(&both[i]);
-            refused = true;
-        }
+    enum status status;
+    g.client.side = KDR_CLIENT;
+    g.client.socket = 3;
+    g.server.side = KDR_SERVER;
+    g.server.socket = 4;
+    signal(SIGPIPE, SIG_IGN); /* a write that fails says so */
+    setvbuf(stdout, NULL, _IOLBF, BUFSIZ);
+    status = relay(&g);
+    puts(status == CLOSED ? "closed" : "open");
+    if (fflush(stdout) != 0 || ferror(stdout)) {
+        give_up("report");
     }
-    puts(kdr_closed(g.session, sizeof g.session) ? "closed" : "open");
-    return refused ? 1 : 0;
+    return (int)status;
 }
