@@ -7,8 +7,8 @@
  * offered again. Standard output has a line for each message: the side, the instruction, and how
  * many bytes it has, or its refusal; and a line for each finished item. The last line is `closed`
  * or `open`. The status is 0 where the conversation is over, 1 where a refusal stopped it, 3 where
- * a stream ended between two messages, and 2 where reading or writing failed. Bytes behind the
- * message that ends the conversation are not looked at.
+ * a stream ended between two messages, and 2, without a last line, where reading or writing failed.
+ * Bytes behind the message that ends the conversation are not looked at.
  */
 #define _POSIX_C_SOURCE 200809L
 
@@ -34,7 +34,7 @@ struct stream {
     uint8_t bytes[KDR_MESSAGE_MAX];
 };
 
-/* All that is lent to the library besides. */
+/* The two sides, and all else that is lent to the library. */
 struct gateway {
     struct stream client, server;
     uint8_t session[KDR_SESSION_BYTES];

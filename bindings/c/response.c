@@ -39,8 +39,8 @@ static void refuse(uint64_t answer)
     exit(1);
 }
 
-/* Waits for more bytes where the refusal is 1; any other ends the program, for no bytes to come would
- * mend it. What was printed so far is seen before the wait. */
+/* Waits for more bytes where the refusal is 1; any other ends the program, since no bytes to come
+ * would mend it. What was printed so far is seen before the wait. */
 static void read_more(uint64_t refusal)
 {
     ssize_t n;

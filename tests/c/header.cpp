@@ -1,5 +1,5 @@
-// The header in C++: it compiles, its functions are linked by their C names, and those that stand in
-// it are there. The status is 0 where all is so.
+// The header in C++: it compiles, its functions are linked by their C names, and those that stand
+// in it are there. The status is 0 where all is so.
 #include "keddorimp.h"
 #include <cstring>
 
