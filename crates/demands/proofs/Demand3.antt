@@ -19,6 +19,7 @@ use Rattle.session.specs.Machine.{refused, next}
 use Rattle.session.specs.Step.{freshSession, Outcome, outcome, settled, versionAfter, stepped}
 use Rattle.session_exact.proofs.Follows.{Follows, fresh-follows, begins, whole-closed, Settled, settles, taken, nine}
 use Rattle.session_exact.proofs.Published.{published-sent, published-exact, begun-published}
+use Rattle.session_exact.proofs.Turn.{has-turn, one-turn, broken-off, error-answers}
 use Rattle.demands.specs.Demand3.{Form, Offer, Done, Right, messages, Judged, answersFrom, left, step, Demand3}
 
 module _ (o : Offer) where
@@ -99,4 +100,8 @@ demand-3 = record {
   ended = ended;
   payloads = published-exact;
   sendable = begun-published;
+  turn = has-turn;
+  one-turn = one-turn;
+  broken-off = broken-off;
+  error-answers = error-answers;
 }

@@ -7,15 +7,19 @@
 use mathlib.Core.Bool.{Bool, true}
 use mathlib.Core.List.{List, [], _∷_, _++_}
 use mathlib.Core.Logic.{_↔_}
+use mathlib.Core.Option.{Option, some}
 use mathlib.Core.Path.{_≡_}
-use Prim.Native.Nat.{ℕ}
+use Prim.Native.Nat.{ℕ, _<_}
 use lib.Dec.{T}
+use lib.ListN.{length}
 use Rattle.wire.specs.Bytes.{IsBytes}
 use Rattle.wire.specs.Every.{Every}
 use Rattle.wire.specs.declared.Refusal.{Refusal}
 use Rattle.wire.specs.Refusals.{numberOf}
 use Rattle.sedna.specs.declared.Side.{Side}
+use Rattle.sedna.specs.declared.Side.the-variants.{Client, Server}
 use Rattle.sedna.specs.Message.{Body, Message, message}
+use Rattle.sedna.specs.Names.{ErrorResponse}
 use Rattle.sedna.specs.Published.{Published}
 use Rattle.sedna_read.specs.Meaning.{meaning}
 use Rattle.sedna_read.specs.Reading.{Answer, reading}
@@ -23,6 +27,7 @@ use Rattle.grammar.specs.Conversation.{Whole, Begins}
 use Rattle.grammar.specs.Grammar.{Conversation}
 use Rattle.grammar.specs.Layout.{flat}
 use Rattle.grammar.specs.Sent.{published}
+use Rattle.grammar.specs.Turn.{HasTurn}
 use Rattle.session.specs.declared.Session.{Session}
 use Rattle.session.specs.Step.{freshSession, stepped, closedOf}
 use Rattle.session_cell.specs.Lent.{lentAnswer, lentLeft}
@@ -107,3 +112,12 @@ pub record Demand3 : Type 1 where
   pub payloads : (k : ℕ) (b : Body) → T (published k b) ↔ ((side : Side) × Published side (message k b))
   -- so a list that begins a conversation has no message that nobody can send
   pub sendable : (l : List Message) → Begins l → Every (λ (m : Message). (side : Side) × Published side m) l
+  -- "Messages alternate by turn": behind messages that begin a conversation one side has the turn, and one only, or the conversation is over
+  pub turn : (l : List Message) → Begins l → (t : Option Side) × HasTurn l t
+  pub one-turn : (l : List Message) (t u : Option Side) → HasTurn l t → HasTurn l u → t ≡ u
+  -- "ErrorResponse: where the client has the turn (after StartUp) it ends the conversation."
+  pub broken-off : (l : List Message) (m : Message) → Published Server m → m .instruction ≡ ErrorResponse
+      → 0 < length l → HasTurn l (some Client) → Whole (l ++ (m ∷ []))
+  -- "Where the server has it, …": it is an answer wherever that is
+  pub error-answers : (l : List Message) (m : Message) → Published Server m → m .instruction ≡ ErrorResponse
+      → HasTurn l (some Server) → Begins (l ++ (m ∷ []))
