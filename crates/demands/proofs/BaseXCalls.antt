@@ -6,6 +6,7 @@ pub mod Errors
 pub mod Items
 pub mod Walked
 pub mod Suffices
+pub mod Taken
 pub mod Streamed
 use mathlib.Core.Path.{refl}
 use native.Mathlib.Omega.{arith}
@@ -20,7 +21,8 @@ use Rattle.demands.proofs.BaseXCalls.Errors.{error-due, error, error-to
 use Rattle.demands.proofs.BaseXCalls.Items.{item-due, item}
 use Rattle.demands.proofs.BaseXCalls.Walked.{items-walked}
 use Rattle.demands.proofs.BaseXCalls.Suffices.{response-read, decode-suffices, request-suffices, response-suffices}
-use Rattle.demands.proofs.BaseXCalls.Streamed.{item-first, item-decoded, items-streamed}
+use Rattle.demands.proofs.BaseXCalls.Taken.{item-taken, item-none, item-decoded}
+use Rattle.demands.proofs.BaseXCalls.Streamed.{item-first, items-streamed}
 
 pub basex-calls : BaseXCalls
 basex-calls =
@@ -44,8 +46,10 @@ basex-calls =
       item = λ kind s short at told. item kind s at told short;
       item-due = item-due;
       items-walked = items-walked;
-      item-first = item-first;
+      item-taken = λ kind full lists s short at. item-taken kind s at full lists short;
+      item-none = λ kind full lists s at. item-none kind s at full lists;
       item-decoded = item-decoded;
+      item-first = item-first;
       items-streamed = items-streamed;
       write-item = write-item;
       write-end = write-end;

@@ -403,15 +403,24 @@ pub record BaseXCalls : Type 0 where
   pub items-walked : (kind : ℕ) (s : List ℕ) → Lendable s → listedOf (findOf kind) ≡ true
       → (r : Response) (rest out told : List ℕ) → Stands kind r s rest → length (flatten (allTexts r)) ≤ length out → 3 ≤ length told
       → walked (suc (length (r .items))) kind s (over out 0 (flatten (allTexts r))) told 0 0 ≡ r .items
-  -- item by item, without judging from the front again: the first is told, and behind it stands the response without it; ..
+  -- an item is told at the place where it stands, whatever is ahead of it and behind it, so also where the rest of the response has not come:
+  -- one reads there exactly that item, and what comes later cannot change it; ..
+  pub item-taken : (kind : ℕ) (full : Bool) → Lists kind full → (s : List ℕ) → Lendable s → (at : ℕ) (i : Item) (rest told : List ℕ)
+      → ItemAllowed full i → drop at s ≡ itemBytes i ++ rest → 3 ≤ length told
+      → (a : ItemRead kind s at told (itemCalled kind s at told)) × (a .item ≡ i) × (a .rest ≡ rest)
+  -- .. so is the end of the items; ..
+  pub item-none : (kind : ℕ) (full : Bool) → Lists kind full → (s : List ℕ) (at : ℕ) (rest told : List ℕ) → drop at s ≡ 0 ∷ rest
+      → ItemsEnd kind s at told (itemCalled kind s at told)
+  -- .. and the texts of an item are decoded by themselves: its strings stand behind its id, one behind the other
+  pub item-decoded : (s : List ℕ) → Lendable s → (at : ℕ) (i : Item) (rest : List ℕ) → drop at s ≡ itemBytes i ++ rest
+      → (front : List (List ℕ)) (t : List ℕ) (back : List (List ℕ)) → i .texts ≡ front ++ (t ∷ back)
+      → (out : List ℕ) (to : ℕ) (told : List ℕ) → to + length t ≤ length out → 1 ≤ length told
+      → (a : Decoded s (at + suc (length (stringsBytes front))) out to told (decodeCalled s (at + suc (length (stringsBytes front))) out to told))
+      × (a .read .text ≡ t)
+  -- of a response that has come whole, item by item: the first is told, and behind it stands the response without it; ..
   pub item-first : (kind : ℕ) (s : List ℕ) → Lendable s → (r : Response) (rest told : List ℕ) → Stands kind r s rest
       → (i : Item) (is : List Item) → r .items ≡ i ∷ is → 3 ≤ length told
       → (a : ItemRead kind s 0 told (itemCalled kind s 0 told)) × (a .item ≡ i) × Stands kind (withItems r is) (drop (length (itemBytes i)) s) rest
-  -- .. its texts are decoded by themselves: its strings stand behind its id, one behind the other; ..
-  pub item-decoded : (s : List ℕ) → Lendable s → (i : Item) (rest : List ℕ) → s ≡ itemBytes i ++ rest
-      → (front : List (List ℕ)) (t : List ℕ) (back : List (List ℕ)) → i .texts ≡ front ++ (t ∷ back)
-      → (out : List ℕ) (to : ℕ) (told : List ℕ) → to + length t ≤ length out → 1 ≤ length told
-      → (a : Decoded s (suc (length (stringsBytes front))) out to told (decodeCalled s (suc (length (stringsBytes front))) out to told)) × (a .read .text ≡ t)
   -- .. so one comes to the end of the items, where what is left reads as the response without them
   pub items-streamed : (kind : ℕ) (s : List ℕ) → Lendable s → listedOf (findOf kind) ≡ true → (r : Response) (rest told : List ℕ)
       → Stands kind r s rest → 3 ≤ length told

@@ -2,26 +2,19 @@
 use mathlib.Core.Bool.{Bool, true, false}
 use mathlib.Core.List.{List, [], _∷_, _++_, append-assoc}
 use mathlib.Core.Path.{_≡_, refl, sym, ap, subst, _∙_}
-use Prim.Native.Nat.{ℕ, suc, _+_, _-_, _≤_}
+use Prim.Native.Nat.{ℕ, _≤_}
 use native.Mathlib.Omega.{arith}
-use lib.ListN.{length, drop, length-append, length-drop}
+use lib.ListN.{length, drop, length-drop}
 use lib.Seq.{drop-append-seam}
-use borrow.Author.Tests.{le-ltb}
-use Rattle.basex_string.specs.Strings.{string}
 use Rattle.basex.specs.declared.Reply.{Reply}
 use Rattle.basex.specs.declared.Reply.the-variants.{Command, Stored, Query, Results, Full}
 use Rattle.basex.specs.Kinds.{findOf, ahead, listed, isFull}
 use Rattle.basex.specs.Texts.{strings}
 use Rattle.basex.specs.Response.{Item, Response, itemBytes, itemsBytes, encode, ItemAllowed, ItemsAllowed, ListAllowed, Published, Stands}
-use Rattle.basex_response.specs.Items.{uriLength, textLength}
 use Rattle.basex_exact.specs.Calls.{listedOf}
 use Rattle.basex_exact.proofs.Chosen.{apart}
-use Rattle.basex_exact.proofs.Handed.{made, item-told, end-told}
-use Rattle.demands.specs.Answered.{Answered, answered}
-use Rattle.demands.specs.BaseXCalls.{Lendable, Called, Lists, Decoded, ItemRead, ItemsEnd, decodeCalled, itemCalled, withItems, countOf, streamed}
-use Rattle.demands.proofs.BaseXCalls.Answers.{count-is, in-front}
-use Rattle.demands.proofs.BaseXCalls.Items.{asks, comes}
-use Rattle.demands.proofs.BaseXCalls.Suffices.{decode-read}
+use Rattle.demands.specs.BaseXCalls.{Lendable, Lists, ItemRead, ItemsEnd, itemCalled, withItems, countOf, streamed}
+use Rattle.demands.proofs.BaseXCalls.Taken.{item-taken, item-none}
 
 -- what stands ahead of an item is nothing
 no-texts : (reply : Reply) → listed reply ≡ true → (ts : List (List ℕ)) → length ts ≡ ahead reply → ts ≡ []
@@ -68,72 +61,20 @@ module _ (kind : ℕ) (s : List ℕ) (short : Lendable s) (r : Response) (rest t
   lists : listed (h .reply) ≡ true → Lists kind (isFull (h .reply))
   lists l = record { strings = h .strings; reply = h .reply; known = h .known; list = l; uris = refl }
 
-  -- what is told of the first item
-  first-is : (i : Item) (is : List Item) (b : Begins (h .reply) r i is) → 3 ≤ length told
-      → itemCalled kind s 0 told
-      ≡ record { answer = answered (0 + length (itemBytes i) - 0); out = []; told = (i .id ∷ uriLength (isFull (h .reply)) i ∷ textLength (isFull (h .reply)) i ∷ []) ++ drop 3 told }
-  first-is i is b three =
-      let full = isFull (h .reply) in
-      let e = h .encoded ∙ ap (λ (m : List ℕ). m ++ rest) (b .bytes) ∙ append-assoc (itemBytes i) (encode (h .reply) (withItems r is)) rest in
-      ap (comes kind s 0 told) (asks kind s 0 full (lists (b .list)) ∙ item-told full s [] (encode (h .reply) (withItems r is) ++ rest) i (b .allowed) e) ∙ rw (le-ltb (length told) 3 three)
-
   pub item-first : (i : Item) (is : List Item) → r .items ≡ i ∷ is → 3 ≤ length told
       → (a : ItemRead kind s 0 told (itemCalled kind s 0 told)) × (a .item ≡ i) × Stands kind (withItems r is) (drop (length (itemBytes i)) s) rest
   item-first i is e three =
-      let full = isFull (h .reply) in
       let b = begins (h .reply) r i is (h .published) e in
-      let m = made full i (b .allowed .1) in
       let left = encode (h .reply) (withItems r is) ++ rest in
       let z = h .encoded ∙ ap (λ (m : List ℕ). m ++ rest) (b .bytes) ∙ append-assoc (itemBytes i) (encode (h .reply) (withItems r is)) rest in
-      let l = ap length z ∙ length-append (itemBytes i) left in
-      let told-so = subst (λ (c : Called). (a : ItemRead kind s 0 told c) × (a .item ≡ i)) (sym (first-is i is b three)) (
-        record {
-          full = full;
-          lists = lists (b .list);
-          item = i;
-          rest = left;
-          allowed = b .allowed;
-          stands = z;
-          counted = count-is (0 + length (itemBytes i) - 0) (length (itemBytes i)) (omega arith) (omega (arith, short));
-          named = refl;
-          uri = sym (m .uri);
-          text = sym (m .text);
-          fields = in-front (i .id ∷ uriLength full i ∷ textLength full i ∷ []) told three;
-        },
-        refl,
-      ) in
-      (told-so .0, told-so .1, record { strings = h .strings; reply = h .reply; known = h .known; published = b .published; encoded = ap (drop (length (itemBytes i))) z ∙ drop-append-seam (itemBytes i) left })
+      let t = item-taken kind s 0 (isFull (h .reply)) (lists (b .list)) short i left told (b .allowed) z three in
+      (t .0, t .1, record { strings = h .strings; reply = h .reply; known = h .known; published = b .published; encoded = ap (drop (length (itemBytes i))) z ∙ drop-append-seam (itemBytes i) left })
 
   -- and at the end of them
   pub items-end : listed (h .reply) ≡ true → r .items ≡ [] → ItemsEnd kind s 0 told (itemCalled kind s 0 told)
   items-end l e =
-      let full = isFull (h .reply) in
-      let left = r .status ∷ strings (r .error) ++ rest in
-      let z = h .encoded ∙ ap (λ (m : List ℕ). m ++ rest) (ends (h .reply) r (h .published) l e) in
-      let c : itemCalled kind s 0 told ≡ record { answer = Answered.count 0; out = []; told = told }
-      = ap (comes kind s 0 told) (asks kind s 0 full (lists l) ∙ end-told full s [] left z) ∙ rw (le-ltb (length told) 0 (omega arith)) in
-      subst (ItemsEnd kind s 0 told) (sym c) (record { full = full; lists = lists l; rest = left; stands = z; counted = refl; untold = refl })
-
-strings-append : (ts us : List (List ℕ)) → strings (ts ++ us) ≡ strings ts ++ strings us
-unfolding strings
-strings-append [] us = refl
-strings-append (t ∷ ts) us = ap (λ (m : List ℕ). string t ++ m) (strings-append ts us) ∙ sym (append-assoc (string t) (strings ts) (strings us))
-
-pub item-decoded : (s : List ℕ) → Lendable s → (i : Item) (rest : List ℕ) → s ≡ itemBytes i ++ rest → (front : List (List ℕ)) (t : List ℕ) (back : List (List ℕ)) → i .texts ≡ front ++ (t ∷ back)
-    → (out : List ℕ) (to : ℕ) (told : List ℕ) → to + length t ≤ length out → 1 ≤ length told
-    → (a : Decoded s (suc (length (strings front))) out to told (decodeCalled s (suc (length (strings front))) out to told)) × (a .read .text ≡ t)
-unfolding itemBytes strings
-item-decoded s short i rest e front t back h out to told fits one = decode-read s short (suc (length (strings front))) t (strings back ++ rest) there out to told fits one
-  where
-    behind : strings (i .texts) ++ rest ≡ strings front ++ (string t ++ (strings back ++ rest))
-    behind =
-        ap (λ (m : List (List ℕ)). strings m ++ rest) h
-        ∙ ap (λ (m : List ℕ). m ++ rest) (strings-append front (t ∷ back))
-        ∙ append-assoc (strings front) (string t ++ strings back) rest
-        ∙ ap (λ (m : List ℕ). strings front ++ m) (append-assoc (string t) (strings back) rest)
-
-    there : drop (suc (length (strings front))) s ≡ string t ++ (strings back ++ rest)
-    there = ap (drop (suc (length (strings front)))) e ∙ ap (drop (length (strings front))) behind ∙ drop-append-seam (strings front) (string t ++ (strings back ++ rest))
+      item-none kind s 0 (isFull (h .reply)) (lists l) (r .status ∷ strings (r .error) ++ rest) told
+      (h .encoded ∙ ap (λ (m : List ℕ). m ++ rest) (ends (h .reply) r (h .published) l e))
 
 listed-so : (kind : ℕ) (r : Response) (s rest : List ℕ) (h : Stands kind r s rest) → listedOf (findOf kind) ≡ true → listed (h .reply) ≡ true
 listed-so kind r s rest h l = sym (ap listedOf (h .known)) ∙ l
