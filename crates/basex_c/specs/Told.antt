@@ -4,7 +4,6 @@ use Prim.Native.Nat.{ℕ, _-_}
 use lib.Dec.{ltb, eqb}
 use lib.ListN.{length, drop, getD}
 use Rattle.wire.specs.Bytes.{if}
-use Rattle.wire.specs.declared.Place.{Place}
 use Rattle.wire.specs.declared.Refusal.the-variants.{MoreBytes, UnknownInstruction, ValueNotAllowed, NoRoom}
 use Rattle.wire.specs.Refusals.{refusalCode}
 use Rattle.basex_string.specs.declared.Spelled.{Spelled}

@@ -32,7 +32,7 @@ use Rattle.grammar.proofs.Sendable.{true-T, Sendable, begun-sendable}
 use Rattle.session.specs.declared.Session.{Session}
 use Rattle.session.specs.declared.Turn.{Turn}
 use Rattle.session.specs.declared.Turn.the-variants.{Of, Over}
-use Rattle.session.specs.Machine.{Row, along, broken, refused, clientRows, serverRows, moveOf, clientMove, serverMove, next}
+use Rattle.session.specs.Machine.{Row, along, refused, clientRows, serverRows, moveOf, clientMove, serverMove, next}
 use Rattle.session.specs.Step.{freshSession, Outcome, versionAfter, settled, closedOf, turnOf}
 use Rattle.session.proofs.Rows.{broken-row}
 use Rattle.session_exact.proofs.Follows.{Follows, fresh-follows, begins, whole-closed, last-closed, Settled, settles, taken, nine}
