@@ -2,7 +2,9 @@
 //!
 //! A string is escaped, so what is read is decoded into an output that the caller lends; the texts
 //! of a request or a response stand there one behind the other, and an output as long as the bytes
-//! that are read is always long enough. A response is read knowing the [`Kind`] of its request.
+//! that are read is always long enough. A response is read knowing the [`Kind`] of its request:
+//! whole by [`read_response`], or the items of RESULTS and FULL one by one as they come by
+//! [`read_item`].
 
 mod items;
 mod kind;
@@ -11,7 +13,7 @@ mod response;
 mod string;
 mod writer;
 
-pub use items::{Item, Items};
+pub use items::{read_item, Item, Items};
 pub use kind::Kind;
 pub use request::{read_request, write_request, Request};
 pub use response::{read_response, End, Response};

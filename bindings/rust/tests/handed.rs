@@ -1,6 +1,8 @@
 //! What is handed out: how long it lives, and what a URI or a URL that is none means.
 
-use keddorimp::basex::{read_response, End, Item, Items, Kind, Request, Response, ResponseWriter};
+use keddorimp::basex::{
+    read_item, read_response, End, Item, Items, Kind, Request, Response, ResponseWriter,
+};
 use keddorimp::sedna::{
     read, write_empty, write_item, Assembly, Body, Cut, Gathering, Instruction, Joined, Message,
     Session, Settings, Side, MESSAGE_MAX,
@@ -104,6 +106,41 @@ fn the_order_of_refusals_for_an_item() {
         assert_eq!(refused, Err(refusal), "{kind} {id} {uri:?}");
         assert_eq!(out, [0xA5]);
     }
+}
+
+/// 1 for no byte, 2, 8 for a response without items, the fields one after another, and 10 last; a
+/// refused call has stored nothing, not even a URI that fits alone.
+#[test]
+fn the_order_of_refusals_for_reading_an_item() {
+    use Refusal::{BadEscape, MoreBytes, NoRoom, UnknownInstruction, ValueNotAllowed};
+    for (kind, bytes, refusal) in [
+        (Kind(0xFF), &b""[..], MoreBytes),
+        (Kind(0xFF), b"\x10", UnknownInstruction),
+        (Kind::QUERY, b"\x0C", ValueNotAllowed),
+        (Kind::FULL, b"\x10\xFFt", ValueNotAllowed),
+        (Kind::FULL, b"\x0Cu", MoreBytes),
+        (Kind::FULL, b"\x0Cu\xFFu", BadEscape),
+        (Kind::FULL, b"\x0Curi\0\xFFt", BadEscape),
+        (Kind::FULL, b"\x0Curi\0text", MoreBytes),
+        (Kind::FULL, b"\x0Curi\0text\0", NoRoom),
+        (Kind::FULL, b"\x0Clong uri\0\0", NoRoom),
+        (Kind::RESULTS, b"\x0Clong text\0", NoRoom),
+    ] {
+        let mut out = [0xA5; 6];
+        assert_eq!(read_item(kind, bytes, &mut out), Err(refusal), "{kind} {bytes:?}");
+        assert_eq!(out, [0xA5; 6], "{kind} {bytes:?}");
+    }
+}
+
+/// With just enough room for both; and the 00 behind the last item takes none.
+#[test]
+fn an_item_and_the_end_of_the_items() {
+    let (bytes, mut out) = (b"\x0Curi\0t\xFF\0xt\0 and more", [0; 7]);
+    let item = Item { id: 12, uri: Some(b"uri"), text: b"t\0xt" };
+    assert_eq!(read_item(Kind::FULL, bytes, &mut out), Ok(Some((item, 11))));
+    assert_eq!(read_item(Kind::FULL, b"\x0C\0\0", &mut []).unwrap().unwrap().0.uri, Some(&b""[..]));
+    assert_eq!(read_item(Kind::RESULTS, b"\x0C\0\0", &mut []).unwrap().unwrap().0.uri, None);
+    assert_eq!(read_item(Kind::FULL, b"\0", &mut []), Ok(None));
 }
 
 /// In ItemStart None is the flag 0, and `Some(b"")` the flag 1 with an empty URL.

@@ -11,7 +11,20 @@ use crate::refusal::Refusal;
 pub struct Response<'b, 'o> {
     /// The kind of the request that it answers.
     pub kind: Kind,
-    /// Its items: none but for RESULTS and FULL.
+    /// Its items: none but for RESULTS and FULL. Going through them takes a clone, which is small,
+    /// where the response is used behind the loop:
+    ///
+    /// ```
+    /// # use keddorimp::basex::{read_response, Kind};
+    /// # let mut out = [0; 16];
+    /// # let bytes = b"\x341\0\0\x01stopped\0";
+    /// let (response, _) = read_response(Kind::RESULTS, bytes, &mut out)?;
+    /// for item in response.items.clone() {
+    ///     assert_eq!(item.text, b"1");
+    /// }
+    /// assert_eq!(response.failure(), Some(&b"stopped"[..]));
+    /// # Ok::<(), keddorimp::Refusal>(())
+    /// ```
     pub items: Items<'b, 'o>,
     /// All else.
     pub end: End<'o>,
@@ -58,6 +71,10 @@ impl<'o> Response<'_, 'o> {
 ///
 /// Refused with 1, 2 for a byte that starts no request, 8 and 13, and with 10 for an output that is
 /// too short for the texts.
+///
+/// All of it has to be there, and is judged from the front at every call. A response to RESULTS or
+/// FULL that is long, or comes in pieces, is taken item by item with
+/// [`read_item`](super::read_item) instead; then this reads what stands behind the items.
 ///
 /// ```
 /// use keddorimp::basex::{read_response, Item, Kind};

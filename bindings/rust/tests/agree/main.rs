@@ -12,6 +12,7 @@ mod responses;
 mod rng;
 mod same;
 mod stepping;
+mod streaming;
 mod strings;
 mod tally;
 mod texts;
@@ -25,7 +26,7 @@ const LEAST: usize = 1_000_000;
 
 fn main() {
     let start = Instant::now();
-    let parts: [fn() -> Tally; 10] = [
+    let parts: [fn() -> Tally; 12] = [
         reading::run,
         writing::run,
         stepping::run,
@@ -36,6 +37,8 @@ fn main() {
         requests::write,
         responses::read,
         responses::write,
+        streaming::calls,
+        streaming::streams,
     ];
     let mut total = 0;
     let mut refusals = BTreeSet::new();

@@ -50,7 +50,7 @@ fn sweep(rng: &mut Rng, tally: &mut Tally, out: &mut Vec<u8>) {
 }
 
 /// A response to a request of the kind.
-fn sound(rng: &mut Rng, kind: u8) -> Vec<u8> {
+pub fn sound(rng: &mut Rng, kind: u8) -> Vec<u8> {
     let call = Call::sound(rng, kind);
     call.bytes(kind).concat()
 }
