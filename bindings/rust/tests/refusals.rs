@@ -142,6 +142,36 @@ fn r12_buffer_overrun() {
     assert_eq!(buffer, [0xA5]);
 }
 
+/// Parts, ends and refusals, and whether a part was taken behind each.
+#[test]
+fn begun_and_ended() {
+    let part = message(Instruction::ITEM_PART, 7, &[0, 0, 0, 0, 2, b'1', b'2']);
+    let long = message(Instruction::ITEM_PART, 8, &[0, 0, 0, 0, 3, b'1', b'2', b'3']);
+    let [item_end, result_end] =
+        [Instruction::ITEM_END, Instruction::RESULT_END].map(|end| message(end, 0, &[]));
+    let (mut assembly, mut buffer) = (Assembly::new(), [0; 2]);
+    assert!(!assembly.begun());
+    for (offers, ended) in [
+        // An item that either of the two ends.
+        (&[(&part, 0, true), (&item_end, 0, false), (&item_end, 9, false)][..], true),
+        (&[(&part, 0, true), (&result_end, 0, false), (&result_end, 9, false)], true),
+        // An end before any part takes nothing.
+        (&[(&result_end, 9, false), (&item_end, 9, false), (&part, 0, true)], false),
+        // A part without room, behind one that was taken and at first.
+        (&[(&part, 0, true), (&part, 12, true), (&result_end, 12, true)], false),
+        (&[(&long, 12, false), (&part, 12, false), (&result_end, 12, false)], false),
+    ] {
+        assembly.open(Gathering::Item);
+        assert!(!assembly.begun());
+        for &(bytes, number, begun) in offers {
+            let joined = assembly.join(&mut buffer, Side::Server, bytes);
+            assert_eq!(joined.map_or_else(Refusal::number, |_| 0), number);
+            assert_eq!(assembly.begun(), begun);
+        }
+        assert_eq!(assembly == Assembly::new(), ended);
+    }
+}
+
 /// A buffer that is lent shorter than what was gathered takes no part, not even an empty one, and
 /// no end; and the gathering is spoilt.
 #[test]

@@ -102,8 +102,56 @@ impl Assembly {
         self.record = raw::open(what as u64);
     }
 
+    /// Whether a part was taken, and no end yet.
+    ///
+    /// It is false from an opening to the first part that is taken, and again behind the end, which
+    /// closes the gathering. A refused message does not change it, even with 12: where the very
+    /// first part found no room it is still false, so who goes on behind a 12 keeps that in mind up
+    /// to the next opening.
+    ///
+    /// ```
+    /// use keddorimp::sedna::{read, Assembly, Gathering, Instruction, Joined, Side};
+    /// use keddorimp::Refusal;
+    ///
+    /// /// The item that this message of a delivery ends, if any.
+    /// fn deliver<'b>(
+    ///     assembly: &mut Assembly,
+    ///     buffer: &'b mut [u8],
+    ///     bytes: &[u8],
+    /// ) -> Result<Option<&'b [u8]>, Refusal> {
+    ///     let (message, _) = read(Side::Server, bytes)?;
+    ///     if message.instruction == Instruction::RESULT_END && !assembly.begun() {
+    ///         return Ok(None); // ResultEnd alone
+    ///     }
+    ///     match assembly.join(buffer, Side::Server, bytes)? {
+    ///         (Joined::Item { text }, _) => Ok(Some(text)),
+    ///         _ => Ok(None),
+    ///     }
+    /// }
+    ///
+    /// let (mut assembly, mut buffer) = (Assembly::new(), [0; 100]);
+    /// let part = [0, 0, 1, 104, 0, 0, 0, 7, 0, 0, 0, 0, 2, b'4', b'2'];
+    /// let end = [0, 0, 1, 119, 0, 0, 0, 0];
+    /// assembly.open(Gathering::Item);
+    /// assert_eq!(deliver(&mut assembly, &mut buffer, &part)?, None);
+    /// assert_eq!(deliver(&mut assembly, &mut buffer, &end)?, Some(&b"42"[..]));
+    /// // Asked again, the server answers with ResultEnd alone.
+    /// assembly.open(Gathering::Item);
+    /// assert_eq!(deliver(&mut assembly, &mut buffer, &end)?, None);
+    /// # Ok::<(), Refusal>(())
+    /// ```
+    pub fn begun(&self) -> bool {
+        let [_, begun, ..] = self.record;
+        begun == 1
+    }
+
     /// Joins the message at the front of `bytes`, which `side` sent, to what the buffer holds: what
     /// it has done, and how many bytes it has. The message that ends a gathering closes it.
+    ///
+    /// A statement ends with LongQueryEnd, or is an Execute, part and end at once; an item ends with
+    /// ItemEnd or ResultEnd. An end before any part is refused with 9, and a ResultEnd that answers
+    /// alone is such an end, though a good message: no item comes with it. So ask
+    /// [`begun`](Self::begun) before a ResultEnd is joined.
     ///
     /// Refused with 1 to 8 as [reading](super::read) is, with 9 for a message that the gathering
     /// does not take there, and with 12 where the buffer is too short. After a 12 the gathering is

@@ -72,8 +72,9 @@ impl Both {
             _ => false,
         };
         let told = format!("{ours:?}");
+        let begun = self.assembly.begun() == self.gathering.begun;
         assert!(
-            alike && self.ours == self.plain,
+            alike && begun && self.ours == self.plain,
             "from the {:?} to {before:?}, room {room}: {told}, plain {plain:?}\n{}",
             input.side,
             hex(&input.bytes)
