@@ -4,6 +4,27 @@
 //! lent output. A [`Session`] takes message after message and refuses what no conversation goes on
 //! with. A [`Cut`] writes a statement or an item of any length as messages, and an [`Assembly`]
 //! joins them again.
+//!
+//! # Writing
+//!
+//! There is one writer for each shape of a body, and the instruction has to be one of that shape. A
+//! message is put into the front of the lent output whole, or nothing is; the answer is what was
+//! written. All writers are refused with 2 for an instruction that document 01's table lacks, 8 for
+//! one that has another shape and for values that are not allowed, 11 for a body above 10,240
+//! bytes, and 10 for an output that is too short, in this order.
+//!
+//! ```
+//! use keddorimp::sedna::{write_text, Instruction};
+//! use keddorimp::Refusal;
+//!
+//! let (mut out, long) = ([0; 14], [b' '; 10_236]);
+//! let mut write = |instruction, text| write_text(&mut out, instruction, text).map(<[u8]>::len);
+//! assert_eq!(write(Instruction(361), &long), Err(Refusal::UnknownInstruction));
+//! assert_eq!(write(Instruction::EXECUTE, &long), Err(Refusal::ValueNotAllowed));
+//! assert_eq!(write(Instruction::ITEM_PART, &long), Err(Refusal::NoEncoding));
+//! assert_eq!(write(Instruction::ITEM_PART, b"42"), Err(Refusal::NoRoom));
+//! assert_eq!(write(Instruction::ITEM_PART, b"4"), Ok(14));
+//! ```
 
 mod assembly;
 mod cut;

@@ -1,21 +1,21 @@
-//! Writing, one function for each shape of a body. A message is put into the front of the lent
-//! output whole, or nothing is; the answer is what was written.
-//!
-//! All are refused with 2 for an instruction that document 01's table lacks, 8 for one that has
-//! another shape and for values that are not allowed, 11 for a body above 10,240 bytes, and 10 for
-//! an output that is too short, in this order.
+//! Writing, one function for each shape of a body. What all of them have in common stands in the
+//! documentation of the module above, where it is seen.
 
 use super::Instruction;
 use crate::raw::sedna as raw;
 use crate::refusal::Refusal;
 
 /// Writes a message without a body.
+///
+/// Refused with 2, 8 and 10, [in this order](super#writing).
 pub fn write_empty(out: &mut [u8], instruction: Instruction) -> Result<&[u8], Refusal> {
     let count = raw::write_empty(out, instruction.0)?;
     Ok(&out[..count])
 }
 
 /// Writes SessionParameters; `version` is major and minor.
+///
+/// Refused with 2, 8, 11 and 10, [in this order](super#writing).
 pub fn write_session<'o>(
     out: &'o mut [u8],
     instruction: Instruction,
@@ -28,6 +28,8 @@ pub fn write_session<'o>(
 }
 
 /// Writes a message that is one string.
+///
+/// Refused with 2, 8, 11 and 10, [in this order](super#writing).
 pub fn write_text<'o>(
     out: &'o mut [u8],
     instruction: Instruction,
@@ -38,6 +40,8 @@ pub fn write_text<'o>(
 }
 
 /// Writes Execute or ExecuteLong; a long statement is written by a [`Cut`](super::Cut).
+///
+/// Refused with 2, 8, 11 and 10, [in this order](super#writing).
 pub fn write_statement<'o>(
     out: &'o mut [u8],
     instruction: Instruction,
@@ -49,6 +53,8 @@ pub fn write_statement<'o>(
 }
 
 /// Writes a message that is a code and a string.
+///
+/// Refused with 2, 8, 11 and 10, [in this order](super#writing).
 pub fn write_coded<'o>(
     out: &'o mut [u8],
     instruction: Instruction,
@@ -61,6 +67,8 @@ pub fn write_coded<'o>(
 
 /// Writes SetOptions. Option k has `ids[k]` and the next `lengths[k]` bytes of `values`, in which
 /// the values stand one behind the other; lists that do not belong together are refused with 8.
+///
+/// Refused with 2, 8, 11 and 10, [in this order](super#writing).
 pub fn write_options<'o>(
     out: &'o mut [u8],
     instruction: Instruction,
@@ -74,6 +82,8 @@ pub fn write_options<'o>(
 
 /// Writes ItemStart; a long item is written by a [`Cut`](super::Cut). Without a URL the flag is 0;
 /// `Some(b"")` is the flag 1 and an empty URL.
+///
+/// Refused with 2, 8, 11 and 10, [in this order](super#writing).
 ///
 /// ```
 /// use keddorimp::sedna::{write_item, Instruction};
