@@ -111,6 +111,27 @@ fn r9_out_of_turn() {
     assert_eq!((session.turn(), session.closed()), (None, true));
 }
 
+/// What comes ahead of its turn is judged as any message: half of one may become the ErrorResponse
+/// that is taken, and what is malformed is refused by its own number.
+#[test]
+fn ahead_of_its_turn() {
+    let error = message(Instruction::ERROR_RESPONSE, 9, &[0; 9]);
+    let mut session = Session::new();
+    session.step(Side::Client, &message(Instruction::START_UP, 0, &[])).unwrap();
+    session.step(Side::Server, &message(Instruction::SEND_SESSION_PARAMETERS, 0, &[])).unwrap();
+    for (bytes, number) in [
+        (&error[..16], 1),
+        (&message(Instruction(101), 0, &[]), 2),
+        (&message(Instruction::START_UP, 0, &[]), 3),
+        (&message(Instruction::ERROR_RESPONSE, 8, &[0; 8]), 5),
+        (&message(Instruction::BEGIN_OK, 0, &[]), 9),
+    ] {
+        let refused = session.step(Side::Server, bytes).expect_err("accepted");
+        assert_eq!((refused.number(), session.turn()), (number, Some(Side::Client)));
+    }
+    assert_eq!(session.step(Side::Server, &error).unwrap().1, 17);
+}
+
 #[test]
 fn r10_no_room() {
     let mut out = [0xA5; 7];

@@ -37,9 +37,11 @@ impl Session {
     /// more than one message.
     ///
     /// At the client's turn the server may still send an ErrorResponse, once StartUp was sent, and
-    /// so end the conversation. So what the other side sends meanwhile is offered to
-    /// [`step`](Self::step) at once: all but that ErrorResponse is refused with 9. Kept until the
-    /// turn is that side's, it might pass for the answer to what was asked later.
+    /// so end the conversation; all else that the side without the turn sends is refused. What it
+    /// has sent came ahead of its turn: offer that to [`step`](Self::step) first, and take nothing
+    /// from the side at turn before it is judged. At a 1 wait for the rest; at any other refusal
+    /// stop. Kept until the turn is that side's, it might pass for the answer to what was asked
+    /// later.
     ///
     /// ```
     /// use keddorimp::sedna::{Session, Side};
