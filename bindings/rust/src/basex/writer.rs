@@ -68,7 +68,7 @@ impl<'o> ResponseWriter<'o> {
     ///
     /// Refused with 2 for a byte that starts no request, 8 for a status above 01 and for texts that
     /// such a response does not have, and 10 for an output that is too short, in this order. The
-    /// writer is then gone too, and the response is written anew; its items stand in the output.
+    /// writer is then gone too, and the response is written anew.
     pub fn end(self, end: &End<'_>) -> Result<&'o [u8], Refusal> {
         let End { texts, status, error } = *end;
         let count = raw::write_end(self.out, self.at, self.kind.0, texts, status, error)?;
