@@ -44,5 +44,6 @@ pub mod basex;
 mod raw;
 mod refusal;
 pub mod sedna;
+mod shown;
 
 pub use refusal::Refusal;

@@ -1,11 +1,13 @@
 //! Document 01's refusal numbers.
 
+use crate::shown::pad;
 use core::error::Error;
 use core::fmt;
 
 macro_rules! refusals {
     ($($number:literal $name:ident $meaning:literal;)*) => {
-        /// Why a call was refused. A refused call has changed nothing that it was lent.
+        /// Why a call was refused. A refused call has changed nothing that it was lent, but for the
+        /// mark of an overfull [`Assembly`](crate::sedna::Assembly).
         ///
         /// Later versions may have more of them, so a `match` needs a case for all others.
         ///
@@ -24,7 +26,20 @@ macro_rules! refusals {
                 #[doc = concat!($number, ": ", $meaning, ".")]
                 $name,
             )*
-            /// A number that this crate has no name for: the archives are newer than the crate.
+            /// A number that this crate has no name for: the archives are newer than the crate. It
+            /// is matched as `Refusal::Unlisted { .. }`; [`number`](Refusal::number) has the number.
+            ///
+            /// ```
+            /// use keddorimp::Refusal;
+            ///
+            /// fn newer(refusal: Refusal) -> Option<u8> {
+            ///     match refusal {
+            ///         Refusal::Unlisted { .. } => Some(refusal.number()),
+            ///         _ => None,
+            ///     }
+            /// }
+            /// assert!(Refusal::ALL.iter().all(|&refusal| newer(refusal).is_none()));
+            /// ```
             #[non_exhaustive]
             Unlisted(u8),
         }
@@ -88,7 +103,7 @@ impl Refusal {
 
 impl fmt::Display for Refusal {
     fn fmt(&self, f: &mut fmt::Formatter<'_>) -> fmt::Result {
-        write!(f, "refused with {}: {}", self.number(), self.meaning())
+        pad(f, format_args!("refused with {}: {}", self.number(), self.meaning()))
     }
 }
 
@@ -96,7 +111,11 @@ impl Error for Refusal {}
 
 #[cfg(test)]
 mod tests {
+    extern crate std;
+
     use super::Refusal;
+    use std::format;
+    use std::string::ToString;
 
     #[test]
     fn a_number_without_a_name_is_kept() {
@@ -108,5 +127,15 @@ mod tests {
             assert_eq!(Refusal::Unlisted(number).number(), number);
         }
         assert_eq!(Refusal::told(256 + 1), Refusal::Unlisted(255));
+    }
+
+    #[test]
+    fn a_width_is_that_of_the_whole() {
+        for refusal in Refusal::ALL.iter().chain([&Refusal::Unlisted(255)]) {
+            let words = format!("refused with {}: {}", refusal.number(), refusal.meaning());
+            assert_eq!(refusal.to_string(), words);
+            assert_eq!(format!("{refusal:->120}"), format!("{words:->120}"));
+            assert_eq!(format!("{refusal:.12}"), "refused with");
+        }
     }
 }

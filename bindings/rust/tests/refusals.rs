@@ -249,6 +249,9 @@ fn what_is_shown() {
     assert_eq!(format!("{} {}", Instruction::ITEM_END, Instruction(371)), "ItemEnd 371");
     assert_eq!(format!("{} {}", Side::Client, Side::Server), "client server");
     assert_eq!(format!("{:>10}", Gathering::Statement), " statement");
+    assert_eq!(format!("{:6}|{:>6}|", Kind::FULL, Kind(0xFF)), "FULL  |  0xFF|");
+    let refusal = format!("{:>33}|", Refusal::BytesLeftOver);
+    assert_eq!(refusal, "  refused with 7: bytes left over|");
     assert_eq!(
         format!("{}, {}", Gathering::Item, Gathering::TypedItem),
         "item up to 3.0, item of 4.0"

@@ -1,5 +1,6 @@
 //! The kinds of request.
 
+use crate::shown::pad;
 use core::fmt;
 
 /// What a request is: its first byte.
@@ -68,7 +69,7 @@ impl fmt::Display for Kind {
     fn fmt(&self, f: &mut fmt::Formatter<'_>) -> fmt::Result {
         match self.name() {
             Some(name) => f.pad(name),
-            None => write!(f, "{:#04X}", self.0),
+            None => pad(f, format_args!("{:#04X}", self.0)),
         }
     }
 }
