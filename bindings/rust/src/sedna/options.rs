@@ -4,6 +4,19 @@ use crate::raw::sedna::option;
 use core::iter::FusedIterator;
 
 /// The options of a SetOptions that was read: any number of ids with values.
+///
+/// ```
+/// use keddorimp::sedna::{read, Body, Side};
+///
+/// let bytes = [0, 0, 2, 18, 0, 0, 0, 10, 0, 0, 0, 7, 0, 0, 0, 0, 1, b'x'];
+/// let (message, _) = read(Side::Client, &bytes)?;
+/// let Body::Options(options) = &message.body else { panic!("not a SetOptions") };
+/// for setting in options {
+///     assert_eq!((setting.id, setting.value), (7, &b"x"[..]));
+/// }
+/// assert_eq!(options.len(), 1);
+/// # Ok::<(), keddorimp::Refusal>(())
+/// ```
 #[derive(Clone, Copy, Debug, PartialEq, Eq)]
 pub struct Options<'a> {
     /// The pairs as they were read.
@@ -48,6 +61,15 @@ impl<'a> Options<'a> {
 }
 
 impl<'a> IntoIterator for Options<'a> {
+    type Item = Setting<'a>;
+    type IntoIter = Settings<'a>;
+
+    fn into_iter(self) -> Settings<'a> {
+        self.iter()
+    }
+}
+
+impl<'a> IntoIterator for &Options<'a> {
     type Item = Setting<'a>;
     type IntoIter = Settings<'a>;
 
