@@ -26,8 +26,9 @@ macro_rules! refusals {
                 #[doc = concat!($number, ": ", $meaning, ".")]
                 $name,
             )*
-            /// A number that this crate has no name for: the archives are newer than the crate. It
-            /// is matched as `Refusal::Unlisted { .. }`; [`number`](Refusal::number) has the number.
+            /// A number that this crate has no name for: the archives are newer than the crate.
+            ///
+            /// Matched as `Refusal::Unlisted { .. }`; [`number`](Refusal::number) has the number.
             ///
             /// ```
             /// use keddorimp::Refusal;

@@ -80,9 +80,10 @@ impl FusedIterator for Items<'_, '_> {}
 /// [`read_response`](super::read_response) of the same kind reads what is left (00, status, error)
 /// as a response without items.
 ///
-/// Refused with 1 for no byte, 2 for a byte that starts no request and 8 for a kind of request whose
-/// response has no items; then field by field with 8, 13 and 1; and last with 10 for an output that
-/// is too short for URI and text together. A 1 says that more bytes may still make an item of it.
+/// Refused with 1 for no byte, 2 for a byte that starts no request and 8 for a kind of request
+/// whose response has no items; then field by field with 8, 13 and 1; and last with 10 for an
+/// output that is too short for URI and text together. A 1 says that more bytes may still make an
+/// item of it.
 ///
 /// ```
 /// use keddorimp::basex::{read_item, read_response, Kind};

@@ -30,8 +30,8 @@ impl<'a> Request<'a> {
     }
 }
 
-/// Reads the request at the front of the bytes, its texts into the output: the request, and how many
-/// bytes were read.
+/// Reads the request at the front of the bytes, its texts into the output: the request, and how
+/// many bytes were read.
 ///
 /// Refused with 1, 2 and 13, and with 10 for an output that is too short for the texts.
 ///

@@ -66,8 +66,8 @@ impl<'o> Response<'_, 'o> {
     }
 }
 
-/// Reads the response at the front of the bytes to a request of the kind, its texts into the output:
-/// the response, and how many bytes were read.
+/// Reads the response at the front of the bytes to a request of the kind, its texts into the
+/// output: the response, and how many bytes were read.
 ///
 /// Refused with 1, 2 for a byte that starts no request, 8 and 13, and with 10 for an output that is
 /// too short for the texts.

@@ -148,9 +148,9 @@ impl Assembly {
     /// Joins the message at the front of `bytes`, which `side` sent, to what the buffer holds: what
     /// it has done, and how many bytes it has. The message that ends a gathering closes it.
     ///
-    /// A statement ends with LongQueryEnd, or is an Execute, part and end at once; an item ends with
-    /// ItemEnd or ResultEnd. An end before any part is refused with 9, and a ResultEnd that answers
-    /// alone is such an end, though a good message: no item comes with it. So ask
+    /// A statement ends with LongQueryEnd, or is an Execute, part and end at once; an item ends
+    /// with ItemEnd or ResultEnd. An end before any part is refused with 9, and a ResultEnd that
+    /// answers alone is such an end, though a good message: no item comes with it. So ask
     /// [`begun`](Self::begun) before a ResultEnd is joined.
     ///
     /// Refused with 1 to 8 as [reading](super::read) is, with 9 for a message that the gathering

@@ -1,4 +1,5 @@
-//! BaseX responses, read knowing the request from sound and damaged bytes, and written item by item.
+//! BaseX responses, read knowing the request from sound and damaged bytes, and written item by
+//! item.
 
 use crate::encoded;
 use crate::lent::{fill, hex, holds};
@@ -32,8 +33,8 @@ pub fn read() -> Tally {
     tally.complete(&[1, 2, 8, 10, 13])
 }
 
-/// Everything short for a request of each shape; and for every first byte, every byte where an id or
-/// a status may stand.
+/// Everything short for a request of each shape; and for every first byte, every byte where an id
+/// or a status may stand.
 fn sweep(rng: &mut Rng, tally: &mut Tally, out: &mut Vec<u8>) {
     for kind in [0x00, 0x01, 0x04, 0x08, 0x1F, 0x20] {
         for bytes in words(&[0x00, 0x01, 0x02, 0x0C, 0x61, 0xFF], 5) {
