@@ -1,6 +1,11 @@
 /* An example: a gateway between a Sedna client and a server, on two connected sockets.
  *
- *     gateway 3<>CLIENT 4<>SERVER     descriptors 3 and 4, to be read and written
+ *     gateway     with the client at descriptor 3 and the server at 4
+ *
+ * Both are connected, blocking sockets, and inherited: a shell cannot open an accepted socket with
+ * 3<>, so a program that has the two starts the gateway, as tests/c/gateway/play.c does. A write
+ * waits for its reader; where the beginning of a message has come ahead of its turn, the rest of it
+ * is waited for; and there is no time limit.
  *
  * A message is forwarded once the session, and joining, have accepted it, and never otherwise. The
  * first refusal but 1 stops the gateway: what was refused is not acted on, not forwarded and not
@@ -54,12 +59,15 @@ static void give_up(const char *what)
 /* Reads once from a stream that has something to be read: bytes, its end or its error. */
 static void receive(struct stream *s)
 {
-    ssize_t n = read(s->socket, s->bytes + s->held, sizeof s->bytes - s->held);
-    if (n == -1 && errno != EINTR) {
+    ssize_t n;
+    do {
+        n = read(s->socket, s->bytes + s->held, sizeof s->bytes - s->held);
+    } while (n == -1 && errno == EINTR);
+    if (n == -1) {
         give_up("read");
     }
     s->ended = n == 0;
-    s->held += n > 0 ? (size_t)n : 0;
+    s->held += (size_t)n;
 }
 
 /* Reads what has come from either side; where `wait`, waits until something has. A stream that has
@@ -69,15 +77,16 @@ static void receive_both(struct gateway *g, bool wait)
 {
     struct stream *both[2] = {&g->client, &g->server};
     struct pollfd ready[2];
+    int count;
     for (int i = 0; i < 2; i++) {
         bool more = !both[i]->ended && both[i]->held < sizeof both[i]->bytes;
         ready[i] = (struct pollfd){.fd = more ? both[i]->socket : -1, .events = POLLIN};
     }
-    if (poll(ready, 2, wait ? -1 : 0) == -1) {
-        if (errno != EINTR) {
-            give_up("poll");
-        }
-        return;
+    do {
+        count = poll(ready, 2, wait ? -1 : 0);
+    } while (count == -1 && errno == EINTR);
+    if (count == -1) {
+        give_up("poll");
     }
     for (int i = 0; i < 2; i++) {
         if (ready[i].fd != -1 && ready[i].revents != 0) {
@@ -180,7 +189,8 @@ static enum status offer(struct gateway *g, struct stream *from, const struct st
  * the session takes ErrorResponse of the server there, and refuses all else. Were the side at turn
  * asked first, its GetNextItem would be taken, and a stray ItemPart that had come before it would
  * be joined to the next item. What is not whole yet is waited for, for the same reason. (A stray
- * that is still on its way when the turn passes cannot be told from an answer.) */
+ * that comes between the look, relay's, and the write, or is still on its way then, cannot be told
+ * from an answer.) */
 static enum status take(struct gateway *g, uint8_t turn)
 {
     struct stream *due = turn == KDR_CLIENT ? &g->client : &g->server;
@@ -194,8 +204,8 @@ static enum status take(struct gateway *g, uint8_t turn)
     return offer(g, due, other);
 }
 
-/* Takes messages until the conversation is over or nothing more can be taken. Ahead of each, what
- * has come is read, so that nothing that came ahead of its turn passes unseen. */
+/* Takes messages until the conversation is over or nothing more can be taken. Ahead of each it
+ * looks: what has come is read, and what came ahead of its turn by then is seen. */
 static enum status relay(struct gateway *g)
 {
     enum status status = TAKEN;
