@@ -1,12 +1,13 @@
 /* An example: reads a BaseX response as its bytes come, and prints what it says.
  *
- *     response KIND <BYTES     KIND is the first byte of the request, in hex: 04 for RESULTS
+ *     response KIND <BYTES     KIND: the first byte of the request, two hex digits (04: RESULTS)
  *
  * Items are printed one by one, as soon as each is whole, and dropped; the response may be of any
  * length. Everything else is held until it is whole: an item, or a response without items, has to
  * fit into the buffer. Bytes behind the response are not looked at. The status is 0 for a whole
  * response, also one that tells of an error; 1 for a refusal, which is 1 where the bytes end inside
- * the response; 2 where reading or printing fails, and where the buffer is too small.
+ * the response; 2 where reading or printing fails, where the buffer is too small, and where KIND
+ * is none.
  */
 #define _POSIX_C_SOURCE 200809L
 
@@ -141,22 +142,30 @@ static void print_response(uint8_t kind, const uint64_t *told)
     }
 }
 
+/* Whether a text is two hex digits. (strtoul alone would take 0x04, -4 and 04xyz too.) */
+static bool is_byte(const char *text)
+{
+    return strlen(text) == 2 && isxdigit((unsigned char)text[0]) &&
+           isxdigit((unsigned char)text[1]);
+}
+
 int main(int argc, char **argv)
 {
     uint64_t told[KDR_BASEX_RESPONSE_FIELDS], answer;
-    unsigned kind;
-    if (argc != 2 || sscanf(argv[1], "%2x", &kind) != 1) {
+    uint8_t kind;
+    if (argc != 2 || !is_byte(argv[1])) {
         fputs("response KIND <BYTES\n", stderr);
         return 2;
     }
+    kind = (uint8_t)strtoul(argv[1], NULL, 16);
     if (kind == KDR_BASEX_RESULTS || kind == KDR_BASEX_FULL) {
-        take_items((uint8_t)kind);
+        take_items(kind);
     }
-    while (kdr_refused(answer = kdr_basex_read_response((uint8_t)kind, held, held_len, out, ROOM,
-                                                        told, KDR_BASEX_RESPONSE_FIELDS))) {
+    while (kdr_refused(answer = kdr_basex_read_response(kind, held, held_len, out, ROOM, told,
+                                                        KDR_BASEX_RESPONSE_FIELDS))) {
         read_more(answer);
     }
-    print_response((uint8_t)kind, told);
+    print_response(kind, told);
     if (fflush(stdout) != 0) {
         give_up("standard output");
     }
