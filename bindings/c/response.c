@@ -33,10 +33,20 @@ static void give_up(const char *what)
     exit(2);
 }
 
+/* Ends the program where something that was printed is not written, by now or when the output was
+ * flushed by itself. */
+static void flush(void)
+{
+    if (fflush(stdout) != 0 || ferror(stdout)) {
+        give_up("standard output");
+    }
+}
+
 static void refuse(uint64_t answer)
 {
     unsigned number = kdr_refusal(answer);
     printf("refused %u: %s\n", number, kdr_refusal_text(number));
+    flush();
     exit(1);
 }
 
@@ -52,9 +62,7 @@ static void read_more(uint64_t refusal)
         errno = EMSGSIZE;
         give_up("buffer");
     }
-    if (fflush(stdout) != 0) {
-        give_up("standard output");
-    }
+    flush();
     do {
         n = read(0, held + held_len, ROOM - held_len);
     } while (n == -1 && errno == EINTR);
@@ -166,8 +174,6 @@ int main(int argc, char **argv)
         read_more(answer);
     }
     print_response(kind, told);
-    if (fflush(stdout) != 0) {
-        give_up("standard output");
-    }
+    flush();
     return 0;
 }
