@@ -18,17 +18,19 @@
  * are there and aligned for their type, and memory that a call may write (any pointer without
  * `const`) overlaps nothing else that the same call is lent. Where the number is 0 the pointer may
  * be NULL, which the tests try and no proof speaks of. A length that no memory has is the caller's
- * error; only the calls that write a Sedna message whole answer 11 to (size_t)-1.
+ * error; what is promised of a text of (size_t)-1 bytes stands at the calls that write a message.
  *
  * Threads. The library keeps nothing between two calls and allocates nothing. So calls that are
  * lent different memory may run at once, on any threads; calls that are lent the same memory, one
  * of them to write it, need the caller's lock.
  *
  * Answers. An answer below 2^63 is a count (of bytes read or written, or of parts), one above it is
- * a refusal, its number on top of 2^63. A refusal leaves every lent byte and number as it was, with
- * one exception (KDR_BUFFER_OVERRUN, at kdr_join). What is told beside a count goes to the front of
- * lent numbers. The comments name the refusals in the order in which they are judged: a call that
- * deserves two gets the first.
+ * a refusal, its number on top of 2^63. Where a call has neither bytes nor parts to count, it is 0
+ * or 1, as its comment says (kdr_fresh, kdr_open, kdr_option, kdr_basex_error); kdr_closed and
+ * kdr_turn answer a plain byte, and refuse nothing. A refusal leaves every lent byte and number as
+ * it was, with one exception (KDR_BUFFER_OVERRUN, at kdr_join). What is told beside a count goes to
+ * the front of lent numbers. The comments name the refusals in the order in which they are judged:
+ * a call that deserves two gets the first.
  */
 #ifndef KEDDORIMP_H
 #define KEDDORIMP_H
@@ -70,7 +72,8 @@ enum kdr_refusal_number {
     KDR_NO_SUCH_PART = 14
 };
 
-/* What a refusal's number stands on top of. No slice is so long, so no count of its bytes is. */
+/* What a refusal's number stands on top of. No memory has half as many bytes, so no count gets
+ * there. */
 #define KDR_REFUSED ((uint64_t)1 << 63)
 
 /* Whether an answer is a refusal. */
@@ -325,12 +328,14 @@ uint64_t kdr_step(uint8_t *session, size_t session_len, uint8_t side,
 /* 1 where the conversation is over, else 0; 0 also where fewer than two bytes are lent. */
 uint8_t kdr_closed(const uint8_t *session, size_t session_len);
 
-/* Whose turn it is: KDR_CLIENT or KDR_SERVER; KDR_NOBODY where the conversation is over, and where
- * fewer than two bytes are lent. The side at turn is the one to wait for. What the other has sent
- * came ahead of its turn: the session takes ErrorResponse of the server at the client's turn (after
+/* Whose turn it is: KDR_CLIENT or KDR_SERVER; KDR_NOBODY where the conversation is over. It is
+ * KDR_NOBODY also where fewer than two bytes are lent, and where no session has the first of them;
+ * kdr_closed is 0 there. The side at turn is the one to wait for. What the other has sent came
+ * ahead of its turn: the session takes ErrorResponse of the server at the client's turn (after
  * StartUp), which ends the conversation, and refuses all else. On live streams offer that first,
- * and stop at a 9: offered again later, it may be taken for the answer to what was asked after it
- * was sent (bindings/c/gateway.c). */
+ * and take nothing from the side at turn before it is judged: at a 1 wait for the rest, at any
+ * other refusal stop. Offered again later, it may be taken for the answer to what was asked after
+ * it was sent (bindings/c/gateway.c). */
 uint8_t kdr_turn(const uint8_t *session, size_t session_len);
 
 /* ---- Cutting (parts_c) ---- */
@@ -386,12 +391,13 @@ enum kdr_gathering {
 };
 
 /* The seven numbers of an assembly. The caller keeps them from message to message, beside the
- * buffer that is gathered in, and leaves both alone; to look is allowed. */
+ * buffer that is gathered in, and leaves both alone; to look is allowed. Seven zeros are an
+ * assembly in which nothing is open. */
 enum kdr_assembly_field {
     KDR_ASSEMBLY_WHAT = 0,   /* what is open, KDR_NOTHING to KDR_TYPED_ITEM */
     KDR_ASSEMBLY_BEGUN = 1,  /* 1 once a part was taken */
     KDR_ASSEMBLY_HELD = 2,   /* how many bytes the front of the buffer holds */
-    KDR_ASSEMBLY_SPOILT = 3, /* 1 once a part found no room */
+    KDR_ASSEMBLY_SPOILT = 3, /* 1 once the buffer was overrun */
     KDR_ASSEMBLY_FORMAT = 4,
     KDR_ASSEMBLY_CLASS = 5,
     KDR_ASSEMBLY_TYPE = 6,
@@ -418,10 +424,12 @@ uint64_t kdr_open(uint64_t *assembly, size_t assembly_len, uint64_t what);
  * a statement LongQueryEnd, or Execute, which is the sole part too; for an item ItemEnd or
  * ResultEnd) closes the assembly; the text is then in front of the buffer, and an item's URL is not
  * part of it. Refused: 10 where fewer than seven numbers or fewer than four to be told are lent; 8
- * for seven numbers that no assembly has; 8 for a side that is none; then 1 to 8 as in reading; 9
- * for a message that the gathering does not take, an end before any part among them (so ResultEnd
- * behind no item is 9); 12 for a part that overruns the buffer, which is then marked in the seven
- * numbers: further parts and the end get 12 as well, ahead of 9, until it is opened anew. */
+ * for numbers that no assembly has (what is open above 3, begun or spoilt above 1, format, class or
+ * type above 255); 8 for a side that is none; then 1 to 8 as in reading; 9 for a message that the
+ * gathering does not take, an end before any part among them (so ResultEnd behind no item is 9); 12
+ * for a part that overruns the buffer, which is then marked in the seven numbers: further parts and
+ * the end get 12 as well, ahead of 9, until it is opened anew. A buffer that is shorter than what
+ * is held is overrun by every part and by the end. */
 uint64_t kdr_join(uint64_t *assembly, size_t assembly_len, uint8_t *buffer, size_t buffer_len,
                   uint8_t side, const uint8_t *bytes, size_t bytes_len,
                   uint64_t *told, size_t told_len);
@@ -546,24 +554,27 @@ enum kdr_basex_error_field {
 
 /* The error of a response that kdr_basex_read_response read: `response` are the six numbers that it
  * told, and `kind` is the same. The answer is 1 where the request failed (status 1), and `place`
- * gets two numbers; it is 0 where the status is 0, and nothing is told. Refused: 10 where fewer
- * than six numbers are given; 2 for a kind that is none; 8 for a status above 1; last 10 where
- * there is an error and fewer than two numbers are lent. */
+ * gets two numbers; it is 0 where the status is 0, and nothing is told. Other numbers get an
+ * answer too, whose place may lie outside the output. Refused: 10 where fewer than six numbers are
+ * given; 2 for a kind that is none; 8 for a status above 1; last 10 where there is an error and
+ * fewer than two numbers are lent. */
 uint64_t kdr_basex_error(uint8_t kind, const uint64_t *response, size_t response_len,
                          uint64_t *place, size_t place_len);
 
 /* A response to RESULTS or FULL may be larger than what one cares to hold, and reading it whole as
  * it grows would judge it from the front again and again. Its items can be taken as they come
- * instead: kdr_basex_item judges the one behind the last, kdr_basex_decode hands out its texts, and
- * its bytes can be dropped. At the 00 behind the last item, kdr_basex_read_response of the same
- * kind reads what is left (00, status, error) as a response without items (bindings/c/response.c).
- * */
+ * instead: kdr_basex_item judges the next one (at a 1, again when more bytes have come); its
+ * strings stand behind the byte of its id, for kdr_basex_decode; then its bytes can be dropped, as
+ * many as kdr_basex_item answered. The 00 behind the last item is not dropped:
+ * kdr_basex_read_response of the same kind reads what is left (00, status, error) as a response
+ * without items (bindings/c/response.c). */
 
 /* What is told of an item. */
 enum kdr_basex_item_field {
     KDR_BASEX_ITEM_ID = 0,
-    KDR_BASEX_ITEM_URI = 1,  /* how long its URI is, decoded; 0 where it has none */
-    KDR_BASEX_ITEM_TEXT = 2, /* and its text */
+    KDR_BASEX_ITEM_URI = 1,  /* how long its URI is, decoded; 0 where it has none or an empty one:
+                              * in FULL the ids 12, 14 and 82 have one */
+    KDR_BASEX_ITEM_TEXT = 2, /* how long its text is, decoded */
     KDR_BASEX_ITEM_FIELDS = 3
 };
 

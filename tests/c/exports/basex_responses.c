@@ -119,13 +119,18 @@ static void check_error_refusals(void)
         CHECK(answer == 1 || answer == KDR_REFUSED + KDR_UNKNOWN_INSTRUCTION);
     }
     CHECK(known == 14 + (0xFE - 0x20 + 1));
+    /* numbers that no response has get an answer too */
+    response[KDR_BASEX_RESPONSE_LENGTH_1] = response[KDR_BASEX_RESPONSE_LENGTH_2] = UINT64_MAX;
+    lend();
+    CHECK(kdr_basex_error(KDR_BASEX_COMMAND, response, 6, place, 2) == 1);
+    TOLD([KDR_BASEX_ERROR_START] = UINT64_MAX, [KDR_BASEX_ERROR_LENGTH] = UINT64_MAX);
 }
 
 /* The items of a response, one by one, as FULL and as RESULTS understand the same bytes. */
 static void check_items(void)
 {
     const uint8_t full = KDR_BASEX_FULL, results = KDR_BASEX_RESULTS;
-    uint8_t bytes[16], bad[] = {7, 0xFF, 0x41};
+    uint8_t bytes[16], bad[] = {7, 0xFF, 0x41}, empty_uri[] = {12, 0, 't', 0};
     const size_t n = from_hex(bytes, "0C 7576 00 74 00 0B 3C612F3E 00 00");
     uint64_t *t = lent.numbers;
     lend();
@@ -133,6 +138,8 @@ static void check_items(void)
     TOLD([KDR_BASEX_ITEM_ID] = 12, [KDR_BASEX_ITEM_URI] = 2, [KDR_BASEX_ITEM_TEXT] = 1);
     CHECK(kdr_basex_item(full, bytes, n, 6, t, KDR_BASEX_ITEM_FIELDS) == 6);
     TOLD(11, 0, 4);
+    CHECK(kdr_basex_item(full, empty_uri, 4, 0, t, KDR_BASEX_ITEM_FIELDS) == 4);
+    TOLD(12, 0, 1);
     lend();
     CHECK(kdr_basex_item(full, bytes, n, 12, t, KDR_BASEX_ITEM_FIELDS) == 0);
     CHECK(kdr_basex_item(full, bytes, n, 12, NULL, 0) == 0);

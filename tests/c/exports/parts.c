@@ -187,6 +187,37 @@ static void check_overrun(void)
     gather(KDR_ITEM);
 }
 
+/* A buffer shorter than what is held is overrun by a part without a byte, and by the end. */
+static void check_shorter_buffer(void)
+{
+    uint8_t *out = lent.out;
+    for (int end = 0; end <= 1; end++) {
+        gather(KDR_ITEM);
+        CHECK(join(kdr_write_text(out, room, 360, TEXT("ab")), KDR_SERVER, 2) == 15);
+        CHECK(join(end ? kdr_write_empty(out, room, KDR_ItemEnd)
+                       : kdr_write_text(out, room, 360, NO_TEXT),
+                   KDR_SERVER, 1) == KDR_REFUSED + KDR_BUFFER_OVERRUN);
+        CHECK(lent.assembly[KDR_ASSEMBLY_SPOILT] == 1 && lent.assembly[KDR_ASSEMBLY_HELD] == 2);
+        CHECK(memcmp(buffer.lent, "ab", 2) == 0 && left_alone(buffer.lent + 2, sizeof buffer - 2));
+    }
+}
+
+/* Each number that no assembly has, by the highest that one has; what is held may be any. */
+static void check_assembly_numbers(void)
+{
+    const uint64_t highest[] = {3, 1, UINT64_MAX, 1, 255, 255, 255};
+    uint8_t part[16];
+    const size_t n = from_hex(part, "00000168 00000006 00 00000001 78");
+    for (size_t k = 0; k < KDR_ASSEMBLY_FIELDS; k++) {
+        uint64_t a[KDR_ASSEMBLY_FIELDS] = {0}, t[KDR_TOLD_FIELDS];
+        a[k] = highest[k];
+        CHECK(kdr_join(a, 7, NULL, 0, KDR_SERVER, part, n, t, 4) == KDR_REFUSED + KDR_OUT_OF_ORDER);
+        a[k]++;
+        CHECK(kdr_join(a, 7, NULL, 0, KDR_SERVER, part, n, t, 4) ==
+              KDR_REFUSED + (k == KDR_ASSEMBLY_HELD ? KDR_OUT_OF_ORDER : KDR_VALUE_NOT_ALLOWED));
+    }
+}
+
 /* The call on a fresh opening is refused, and leaves everything. */
 #define JOIN_REFUSED(number, what, call)                 \
     do {                                                 \
@@ -232,5 +263,7 @@ void check_joining(void)
     check_statement_joined();
     check_items_joined();
     check_overrun();
+    check_shorter_buffer();
+    check_assembly_numbers();
     check_join_refusals();
 }

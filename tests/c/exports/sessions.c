@@ -196,6 +196,19 @@ static void check_turns(void)
     }
 }
 
+/* A first byte that no session has: nobody's turn, though it is not closed, and all is 9. */
+static void check_no_session(void)
+{
+    for (unsigned first = 32; first <= 255; first++) {
+        uint8_t session[KDR_SESSION_BYTES] = {(uint8_t)first, 4};
+        CHECK(kdr_turn(session, KDR_SESSION_BYTES) == KDR_NOBODY);
+        CHECK(kdr_closed(session, KDR_SESSION_BYTES) == 0);
+        for (size_t i = 0; i < TURN_COUNT; i++) {
+            CHECK(offer(session, TURNS[i].side, TURNS[i].instruction) == KDR_OUT_OF_ORDER);
+        }
+    }
+}
+
 /* A fresh session is offered this, and is as fresh behind it. */
 #define STEP_REFUSED(number, session_len, side, bytes, len, fields_len)                          \
     do {                                                                                         \
@@ -237,5 +250,6 @@ void check_sessions(void)
     check_version(2, KDR_OUT_OF_ORDER);
     check_version(3, 0);
     check_turns();
+    check_no_session();
     check_step_refusals();
 }
