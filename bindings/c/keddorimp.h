@@ -395,7 +395,7 @@ enum kdr_gathering {
  * assembly in which nothing is open. */
 enum kdr_assembly_field {
     KDR_ASSEMBLY_WHAT = 0,   /* what is open, KDR_NOTHING to KDR_TYPED_ITEM */
-    KDR_ASSEMBLY_BEGUN = 1,  /* 1 once a part was taken */
+    KDR_ASSEMBLY_BEGUN = 1,  /* 1 once a part was taken, until the end is; a refused part is not */
     KDR_ASSEMBLY_HELD = 2,   /* how many bytes the front of the buffer holds */
     KDR_ASSEMBLY_SPOILT = 3, /* 1 once the buffer was overrun */
     KDR_ASSEMBLY_FORMAT = 4,
