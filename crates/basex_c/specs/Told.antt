@@ -93,15 +93,15 @@ errorTold error-in.None = Outcome.counted 0 []
 errorTold (error-in.Refused r) = Outcome.refused r
 
 -- by the six numbers that reading it told: 2 for a kind that is none, 8 for a status above 1
-abbrev pub errorAs : Found → List ℕ → ErrorIn
-errorAs Unknown n = error-in.Refused UnknownInstruction
-errorAs (Known k reply) n =
+abbrev pub errorBy : Found → List ℕ → ErrorIn
+errorBy Unknown n = error-in.Refused UnknownInstruction
+errorBy (Known k reply) n =
     if (ltb 1 (getD n 4 0)) (error-in.Refused ValueNotAllowed)
     (if (eqb (getD n 4 0) 0) error-in.None (error-in.At (errorAt reply (getD n 0 0) (getD n 1 0) (getD n 3 0) (getD n 5 0))))
 
 -- 10 ahead of anything where fewer than six are given
 abbrev pub errorIn : ℕ → List ℕ → ErrorIn
-errorIn kind n = if (ltb (length n) 6) (error-in.Refused NoRoom) (errorAs (findOf kind) n)
+errorIn kind n = if (ltb (length n) 6) (error-in.Refused NoRoom) (errorBy (findOf kind) n)
 
 -- telling it, with so many numbers lent
 abbrev pub errorRead : ℕ → List ℕ → ℕ → Outcome

@@ -19,7 +19,7 @@ use Rattle.session.specs.Machine.{refused, next}
 use Rattle.session.specs.Step.{freshSession, Outcome, outcome, settled, versionAfter, stepped}
 use Rattle.session_exact.proofs.Follows.{Follows, fresh-follows, begins, whole-closed, Settled, settles, taken, nine}
 use Rattle.session_exact.proofs.Published.{published-sent, published-exact, begun-published}
-use Rattle.session_exact.proofs.Turn.{has-turn, one-turn, broken-off, error-answers}
+use Rattle.session_exact.proofs.Turn.{turn-exact, has-turn, one-turn, broken-off, error-answers}
 use Rattle.demands.specs.Demand3.{Form, Offer, Done, Right, messages, Judged, answersFrom, left, step, Demand3}
 
 module _ (o : Offer) where
@@ -95,7 +95,7 @@ pub demand-3 : Demand3
 demand-3 = record {
   after-any-list = λ offers.
       let i = follow offers [] freshSession fresh-follows in
-      record { begun = begins i; judged = judge offers [] freshSession fresh-follows; whole = whole-closed i };
+      record { begun = begins i; judged = judge offers [] freshSession fresh-follows; whole = whole-closed i; turned = turn-exact i };
   one-layout = one-layout;
   ended = ended;
   payloads = published-exact;

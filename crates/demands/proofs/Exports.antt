@@ -23,10 +23,10 @@ use Rattle.session.specs.declared.Session.{Session}
 use Rattle.session.specs.declared.Stepped.{Stepped}
 use Rattle.session.specs.declared.Turn.{Turn}
 use Rattle.session.specs.declared.Turn.the-variants.{Of, Over}
-use Rattle.session.specs.Step.{freshSession, Outcome, outcome, told, stepped, closedOf, turnOf}
+use Rattle.session.specs.Step.{freshSession, Outcome, outcome, told, stepped, closedOf, turnOf, sideOf}
 use Rattle.session_exact.proofs.Follows.{Follows, fresh-follows, begins, whole-closed, Settled, settles, taken, nine}
 use Rattle.session_exact.proofs.Published.{published-sent}
-use Rattle.session_exact.proofs.Turn.{sideOf, turn-exact}
+use Rattle.session_exact.proofs.Turn.{turn-exact}
 use Rattle.sedna_c.specs.Codes.{readCode, fieldsLeft}
 use Rattle.sedna_c.specs.Sessions.{recordIn, recordPut, sideStepped, kept, turnNumber}
 use Rattle.demands.specs.Answered.{Answered, answered}

@@ -29,7 +29,7 @@ use Rattle.grammar.specs.Layout.{flat}
 use Rattle.grammar.specs.Sent.{published}
 use Rattle.grammar.specs.Turn.{HasTurn}
 use Rattle.session.specs.declared.Session.{Session}
-use Rattle.session.specs.Step.{freshSession, stepped, closedOf}
+use Rattle.session.specs.Step.{freshSession, stepped, closedOf, turnOf, sideOf}
 use Rattle.session_cell.specs.Lent.{lentAnswer, lentLeft}
 
 -- "Besides the form by value, a step updates the session record where the gateway keeps it"
@@ -82,13 +82,15 @@ module _ (Record : Type 0) (step : Record → Offer → Done Record) where
   left s (o ∷ offers) = left (step s o .session) offers
 
   -- what holds after a list of offers
-  pub record After (fresh : Record) (closed : Record → Bool) (offers : List Offer) : Type 0 where
+  pub record After (fresh : Record) (closed : Record → Bool) (turn : Record → Option Side) (offers : List Offer) : Type 0 where
     -- "The accepted messages, in their order, begin a conversation of document 01's grammar": so every list accepted so far can be finished
     pub begun : Begins (messages (answersFrom fresh offers))
     -- what each offer got
     pub judged : Judged [] offers (answersFrom fresh offers)
     -- "The session reports itself closed exactly when the accepted ones are a whole conversation."
     pub whole : (closed (left fresh offers) ≡ true) ↔ Whole (messages (answersFrom fresh offers))
+    -- "Messages alternate by turn": the session tells who has it then, if any side has
+    pub turned : HasTurn (messages (answersFrom fresh offers)) (turn (left fresh offers))
 
 -- a step of either form, as its contract says: `session::step` returns `stepped`; `session_cell::step_lent` answers `lentAnswer` and leaves `lentLeft`.
 -- An answer by places means the message with the bytes at them
@@ -101,9 +103,13 @@ performed Form.lent s o =
 abbrev pub step : Session → Offer → Done Session
 step s o = performed (o .form) s o
 
+-- what `session::whose_turn` answers
+abbrev pub onTurn : Session → Option Side
+onTurn s = sideOf (turnOf s)
+
 pub record Demand3 : Type 1 where
   -- `freshSession` is `Session::FRESH`, `closedOf` what `session::closed` answers
-  pub after-any-list : (offers : List Offer) → After Session step freshSession closedOf offers
+  pub after-any-list : (offers : List Offer) → After Session step freshSession closedOf onTurn offers
   -- "Every whole conversation can be laid out by the grammar in one way only: any two layouts of it are equal."
   pub one-layout : (c d : Conversation) → flat c ≡ flat d → c ≡ d
   -- "After the end every message gets 9 where no refusal ahead of 9 meets it": no conversation goes on behind a whole one

@@ -1,7 +1,7 @@
 -- The record's turn is the grammar's.
 use mathlib.Core.Bool.{Bool, true, false, not}
 use mathlib.Core.List.{List, [], _∷_, _++_, append-assoc, append-nil}
-use mathlib.Core.Option.{Option, none, some}
+use mathlib.Core.Option.{Option, some}
 use mathlib.Core.Path.{_≡_, refl, sym, _∙_, ap, subst}
 use Prim.Native.Nat.{ℕ, zero, suc, _≤_, _<_}
 use native.Mathlib.Omega.{arith}
@@ -30,19 +30,13 @@ use Rattle.grammar.specs.Turn.{GoesOn, HasTurn}
 use Rattle.grammar.proofs.Ended.{ended}
 use Rattle.grammar.proofs.Sendable.{true-T, Sendable, begun-sendable}
 use Rattle.session.specs.declared.Session.{Session}
-use Rattle.session.specs.declared.Turn.{Turn}
 use Rattle.session.specs.declared.Turn.the-variants.{Of, Over}
 use Rattle.session.specs.Machine.{Row, along, refused, clientRows, serverRows, moveOf, clientMove, serverMove, next}
-use Rattle.session.specs.Step.{freshSession, Outcome, versionAfter, settled, closedOf, turnOf}
+use Rattle.session.specs.Step.{freshSession, Outcome, versionAfter, settled, closedOf, turnOf, sideOf}
 use Rattle.session.proofs.Rows.{broken-row}
 use Rattle.session_exact.proofs.Follows.{Follows, fresh-follows, begins, whole-closed, last-closed, Settled, settles, taken, nine}
 use Rattle.session_exact.proofs.Kept.{Sender, sender, is}
 use Rattle.session_exact.proofs.Published.{published-sent, published-exact}
-
--- the side that a turn is of
-abbrev pub sideOf : Turn → Option Side
-sideOf (Of side) = some side
-sideOf Over = none
 
 -- a test of all numbers below n
 abbrev upTo : (ℕ → Bool) → ℕ → Bool

@@ -1,13 +1,13 @@
 -- A string or a response that stands there is read, and an output as long as the input has room for all texts.
 use mathlib.Core.List.{List, _++_, flatten}
-use mathlib.Core.Logic.{inl, inr}
-use mathlib.Core.Path.{_≡_, refl, sym, ap, _∙_}
+use mathlib.Core.Logic.{_⊎_, inl, inr}
+use mathlib.Core.Path.{_≡_, sym, ap, _∙_}
 use Prim.Native.Nat.{ℕ, _+_, _≤_}
 use native.Mathlib.Omega.{arith}
 use lib.ListN.{length, drop, length-drop}
 use Rattle.wire.specs.Fields.{Got}
 use Rattle.wire.specs.declared.Refusal.{Refusal}
-use Rattle.wire.specs.declared.Refusal.the-variants.{MoreBytes, UnknownInstruction, OtherSide, BodyTooLong, FieldCut, StringFormat, BytesLeftOver, ValueNotAllowed, OutOfOrder, NoRoom, NoEncoding, BufferOverrun, BadEscape, NoSuchPart}
+use Rattle.wire.specs.declared.Refusal.the-variants.{MoreBytes, UnknownInstruction, BadEscape}
 use Rattle.wire.specs.Refusals.{numberOf}
 use Rattle.basex_string.specs.Scan as strings
 use Rattle.basex_string.specs.Strings.{string}
@@ -16,12 +16,13 @@ use Rattle.basex.specs.Request.{Request}
 use Rattle.basex.specs.Response.{Response, Stands}
 use Rattle.basex_request.specs.Reading as requests
 use Rattle.basex_request.specs.Reading.{textsOf}
+use Rattle.basex_request.proofs.Laws as request-laws
 use Rattle.basex_response.specs.Reading as responses
 use Rattle.basex_response.specs.Reading.{allTexts}
-use Rattle.basex_exact.specs.Exactly as exact
 use Rattle.basex_exact.proofs.Chosen.{apart}
-use Rattle.basex_exact.proofs.Exactly.{told-exactly, input-suffices}
-use Rattle.basex_exact.proofs.Listed.{same}
+use Rattle.basex_exact.proofs.Exactly.{input-suffices}
+use Rattle.basex_exact.proofs.Listed.{OfFields, same}
+use Rattle.basex_exact.proofs.Refusals.{reading-refuses}
 use Rattle.basex_exact.proofs.Responses.{response-exact, one-response}
 use Rattle.demands.specs.Answered.{Answered}
 use Rattle.demands.specs.BaseXCalls.{Lendable, Called, Right, Unread, NoPlace, Decoded, ResponseRead, decodeCalled, readRequestCalled, readResponseCalled}
@@ -71,32 +72,15 @@ decode-read s short at t rest h out to told fits one = by (decode s short at tol
     by (Right.refused q d c) = due q d
     by (Right.accepted a) = (a, string-laws.one-encoding (a .read .text) t (a .read .rest) rest (sym (a .read .stands) ∙ h) .0)
 
--- the refusal with the number 10
-ten : (r : Refusal) → numberOf r ≡ 10 → r ≡ NoRoom
-ten NoRoom e = refl
-ten MoreBytes e = absurd (omega arith)
-ten UnknownInstruction e = absurd (omega arith)
-ten OtherSide e = absurd (omega arith)
-ten BodyTooLong e = absurd (omega arith)
-ten FieldCut e = absurd (omega arith)
-ten StringFormat e = absurd (omega arith)
-ten BytesLeftOver e = absurd (omega arith)
-ten ValueNotAllowed e = absurd (omega arith)
-ten OutOfOrder e = absurd (omega arith)
-ten NoEncoding e = absurd (omega arith)
-ten BufferOverrun e = absurd (omega arith)
-ten BadEscape e = absurd (omega arith)
-ten NoSuchPart e = absurd (omega arith)
-
 -- a call of reading that came out right does not answer 10 where what it reads has a place
 module _ {A : Type 0} {x : Got A} {No : A → Type 0} {Accepted : Called → Type 0} (out told : List ℕ) (c : Called) where
-  never-ten : (x ≡ Got.refused NoRoom → ⊥) → ((a : A) (rest : List ℕ) → x ≡ Got.got a rest → No a → ⊥) → (Accepted c → (n : ℕ) × (c .answer ≡ Answered.count n))
+  never-ten : ((r : Refusal) → x ≡ Got.refused r → numberOf r ≡ 10 → ⊥) → ((a : A) (rest : List ℕ) → x ≡ Got.got a rest → No a → ⊥) → (Accepted c → (n : ℕ) × (c .answer ≡ Answered.count n))
       → Right (Unread x No) Accepted out told c → ¬ (c .answer ≡ Answered.refusal 10)
   never-ten refuses place counted (Right.accepted a) e = let k = counted a .1 in apart (cc)
   never-ten refuses place counted (Right.refused r d q) e = due r d (let k = ap (λ (z : Called). z .answer) q in cc)
     where
       due : (r : Refusal) → Unread x No r → numberOf r ≡ 10 → ⊥
-      due r (Unread.unread q d) n = refuses (d ∙ ap Got.refused (ten q n))
+      due r (Unread.unread q d) n = refuses q d n
       due r (Unread.no-room a rest d p) n = place a rest d p
 
 pub decode-suffices : (s : List ℕ) → Lendable s → (at : ℕ) (out : List ℕ) (to : ℕ) (told : List ℕ) → to + length s ≤ length out → 1 ≤ length told
@@ -104,11 +88,12 @@ pub decode-suffices : (s : List ℕ) → Lendable s → (at : ℕ) (out : List �
 decode-suffices s short at out to told h one =
     never-ten out told (decodeCalled s at out to told) refuses place (λ a. (_, a .read .counted)) (decode s short at told out to)
   where
-    refuses : strings.reading (drop at s) ≡ Got.refused NoRoom → ⊥
-    refuses e =
-        let t = told-exactly .string-no-room s at out to .0 (told-exactly .string-undecoded s at out to NoRoom .1 (exact.Unread.refused NoRoom e)) in
-        let f = t .read in
-        apart (cc)
+    refuses : (r : Refusal) → strings.reading (drop at s) ≡ Got.refused r → numberOf r ≡ 10 → ⊥
+    refuses r e n = by (string-laws.refuses (drop at s) r e)
+      where
+        by : (r ≡ MoreBytes) ⊎ (r ≡ BadEscape) → ⊥
+        by (inl m) = let a = ap numberOf m in omega (arith, a, n)
+        by (inr m) = let a = ap numberOf m in omega (arith, a, n)
 
     place : (t rest : List ℕ) → strings.reading (drop at s) ≡ Got.got t rest → NoPlace out (to + length t) told 1 → ⊥
     place t rest e (inl l) = let a = input-suffices .string-short (drop at s) t rest e in let b = length-drop at s in absurd (omega (arith, h, l, a, b))
@@ -118,11 +103,13 @@ pub request-suffices : (s : List ℕ) → Lendable s → (out told : List ℕ) �
     → ¬ (readRequestCalled s out told .answer ≡ Answered.refusal 10)
 request-suffices s short out told h five = never-ten out told (readRequestCalled s out told) refuses place (λ a. (_, a .counted)) (read-request s short out told)
   where
-    refuses : requests.reading s ≡ Got.refused NoRoom → ⊥
-    refuses e =
-        let t = told-exactly .request-no-room s out .0 (told-exactly .request-refused s out NoRoom .1 (exact.Unread.refused NoRoom e)) in
-        let f = t .read in
-        apart (cc)
+    refuses : (r : Refusal) → requests.reading s ≡ Got.refused r → numberOf r ≡ 10 → ⊥
+    refuses r e n = by (request-laws.reading-refuses s r e)
+      where
+        by : request-laws.InReading r → ⊥
+        by (inl m) = let a = ap numberOf m in omega (arith, a, n)
+        by (inr (inl m)) = let a = ap numberOf m in omega (arith, a, n)
+        by (inr (inr m)) = let a = ap numberOf m in omega (arith, a, n)
 
     place : (q : Request) (rest : List ℕ) → requests.reading s ≡ Got.got q rest → NoPlace out (length (flatten (textsOf q))) told 5 → ⊥
     place q rest e (inl l) = let a = input-suffices .request-short s q rest e in absurd (omega (arith, h, l, a))
@@ -133,11 +120,14 @@ pub response-suffices : (kind : ℕ) (s : List ℕ) → Lendable s → (out told
 response-suffices kind s short out told h six =
     never-ten out told (readResponseCalled kind s out told) refuses place (λ a. (_, a .counted)) (read-response kind s short out told)
   where
-    refuses : responses.reading kind s ≡ Got.refused NoRoom → ⊥
-    refuses e =
-        let t = told-exactly .response-no-room kind s out .0 (told-exactly .response-refused kind s out NoRoom .1 (exact.Unread.refused NoRoom e)) in
-        let f = t .read in
-        apart (cc)
+    refuses : (r : Refusal) → responses.reading kind s ≡ Got.refused r → numberOf r ≡ 10 → ⊥
+    refuses r e n = by (reading-refuses kind s r e)
+      where
+        by : (r ≡ UnknownInstruction) ⊎ OfFields r → ⊥
+        by (inl m) = let a = ap numberOf m in omega (arith, a, n)
+        by (inr (inl m)) = let a = ap numberOf m in omega (arith, a, n)
+        by (inr (inr (inl m))) = let a = ap numberOf m in omega (arith, a, n)
+        by (inr (inr (inr m))) = let a = ap numberOf m in omega (arith, a, n)
 
     place : (p : Response) (rest : List ℕ) → responses.reading kind s ≡ Got.got p rest → NoPlace out (length (flatten (allTexts p))) told 6 → ⊥
     place p rest e (inl l) = let a = input-suffices .response-short kind s p rest e in absurd (omega (arith, h, l, a))
