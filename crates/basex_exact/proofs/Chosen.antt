@@ -15,10 +15,6 @@ use Rattle.basex_string.specs.declared.Spelled.the-variants.{Bytes, Refused}
 use Rattle.basex_response.specs.Writing.{inRoom}
 use Rattle.basex_exact.specs.Exactly.{Fits}
 
--- anything follows where `cc` finds two constructors equal
-pub apart : {P : Type 0} → _≡_ {A = ℕ} 0 1 → P
-apart z = absurd (omega arith)
-
 -- what holds of either branch holds of a test
 pub chosen : {A : Type 0} (D : A → Type 0) (t : Bool) {a b : A} → (t ≡ true → D a) → (t ≡ false → D b) → D (if t a b)
 chosen D true f g = f refl

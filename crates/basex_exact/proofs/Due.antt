@@ -30,7 +30,8 @@ use Rattle.basex_request.proofs.Table.{command-one, command-starts, starts-comm
 use Rattle.basex_request.proofs.Written.{row-written}
 use Rattle.basex_response.specs.Writing.{inRoom}
 use Rattle.basex_exact.specs.Exactly.{Fits, Means, Unwritten}
-use Rattle.basex_exact.proofs.Chosen.{apart, chosen, exactly, roomed, room-back, no-room-back}
+use Rattle.wire.proofs.Branches.{apart}
+use Rattle.basex_exact.proofs.Chosen.{chosen, exactly, roomed, room-back, no-room-back}
 use Rattle.basex_exact.proofs.Spare.{spare-found, spare-unused, none-spare}
 
 module _ (room at : ℕ) (text : List ℕ) where

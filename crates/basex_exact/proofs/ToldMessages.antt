@@ -37,7 +37,8 @@ use Rattle.basex_exact.proofs.Handed.{flatten-append}
 use Rattle.basex_exact.proofs.Listed.{same, OfFields}
 use Rattle.basex_exact.proofs.Refusals.{reading-refuses}
 use Rattle.basex_exact.proofs.Responses.{response-exact, reading-known}
-use Rattle.basex_exact.proofs.Chosen.{apart, exactly}
+use Rattle.wire.proofs.Branches.{apart}
+use Rattle.basex_exact.proofs.Chosen.{exactly}
 use Rattle.basex_exact.proofs.Told.{behind-there, answer, tells, unread-back, reads-back, ten, cut-there}
 
 module _ (s out : List ℕ) where

@@ -23,7 +23,8 @@ use Rattle.basex_response.proofs.Sizes.{all-of, behind-at, behind-is}
 use Rattle.basex_exact.specs.Exactly.{Reads, TooLong, Unread, Located, Decoded, ItemTold}
 use Rattle.basex_exact.proofs.Handed.{made}
 use Rattle.basex_exact.proofs.Listed.{next-exact, next-item, next-end}
-use Rattle.basex_exact.proofs.Chosen.{apart, exactly}
+use Rattle.wire.proofs.Branches.{apart}
+use Rattle.basex_exact.proofs.Chosen.{exactly}
 use Rattle.basex_exact.proofs.Told.{answer, tells, unread-back, reads-back, ten, text-there}
 
 module _ (b : List ℕ) (at : ℕ) where

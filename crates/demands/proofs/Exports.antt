@@ -16,7 +16,7 @@ use Rattle.sedna.specs.Message.{Message}
 use Rattle.sedna_read.specs.declared.Reading.the-variants as reads
 use Rattle.sedna_read.specs.Places.{placesOf}
 use Rattle.sedna_read.specs.Reading.{Answer, reading}
-use Rattle.sedna_exact.proofs.Branches.{apart}
+use Rattle.wire.proofs.Branches.{apart}
 use Rattle.sedna_exact.proofs.Exact.{exact}
 use Rattle.grammar.specs.Conversation.{Whole}
 use Rattle.session.specs.declared.Session.{Session}

@@ -21,7 +21,7 @@ use Rattle.assembly.specs.Roles.{roleOf, takes, inOrder, ends, textOf, labelOf}
 use Rattle.parts_c.specs.declared.joining.Kept.{Kept}
 use Rattle.parts_c.specs.declared.joining.Kept.the-variants as kept
 use Rattle.parts_c.specs.Joining.{openOf, openNumber, flagOf, assemblyIn, assemblyPut, keptIn}
-use Rattle.sedna_exact.proofs.Branches.{apart, both}
+use Rattle.wire.proofs.Branches.{apart, both}
 use Rattle.demands.specs.Gatherings.{Gathering, Flag, Means, TOLD-WHAT, TOLD-LENGTH, TOLD-FORMAT, TOLD-CLASS, TOLD-TYPE, TellsReply}
 use Rattle.demands.specs.Header.{_at_}
 

@@ -21,7 +21,7 @@ use Rattle.sedna.specs.Message.{Url, Message, shapeOf}
 use Rattle.sedna_read.specs.Meaning.{bodyIn}
 use Rattle.sedna_read.specs.Places.{placesOf, located}
 use Rattle.sedna_read.specs.Reading.{Answer, reading}
-use Rattle.sedna_exact.proofs.Branches.{apart}
+use Rattle.wire.proofs.Branches.{apart}
 use Rattle.sedna_exact.proofs.Meaning.{meaning-located}
 use Rattle.fragments.specs.Cut.{cutStatement, cutItem, cutTypedItem}
 use Rattle.fragments.specs.declared.Parts.the-variants as parts

@@ -36,7 +36,7 @@ use Rattle.sedna_write.specs.declared.Written.the-variants as wrote
 use Rattle.sedna_write.specs.Pairs.{pairsOf}
 use Rattle.sedna_write.specs.Writing.{judgedAs, judgement, left}
 use Rattle.sedna_c.specs.Codes.{writtenCode, sideReading, readCode, fieldsLeft, optionCode, optionLeft}
-use Rattle.sedna_exact.proofs.Branches.{apart}
+use Rattle.wire.proofs.Branches.{apart}
 use Rattle.sedna_exact.proofs.Bytes.{bytes-part}
 use Rattle.sedna_exact.proofs.Due.{lacking}
 use Rattle.sedna_exact.proofs.Options.{option-exact, option-inside}

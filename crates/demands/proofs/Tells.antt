@@ -22,7 +22,7 @@ use Rattle.sedna_read.specs.Meaning.{bodyIn, optionIn}
 use Rattle.sedna_read.specs.Places.{placesOf, optionAt}
 use Rattle.sedna_read.specs.Reading.{Answer, reading}
 use Rattle.sedna_c.specs.Codes.{fieldsOf, optionLeft}
-use Rattle.sedna_exact.proofs.Branches.{apart}
+use Rattle.wire.proofs.Branches.{apart}
 use Rattle.sedna_exact.proofs.Exact.{exact, front-split}
 use Rattle.sedna_exact.proofs.Meaning.{meaning-located}
 use Rattle.sedna_exact.proofs.Options.{option-exact}

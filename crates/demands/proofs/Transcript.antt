@@ -11,7 +11,7 @@ use borrow.Author.Tests.{lt-ltb, le-ltb, ltb-true, ltb-false}
 use Rattle.wire.specs.Bytes.{IsBytes, if}
 use Rattle.wire.specs.Refusals.{numberOf}
 use Rattle.sedna.specs.Message.{Message}
-use Rattle.sedna_exact.proofs.Branches.{apart, either}
+use Rattle.wire.proofs.Branches.{apart, either}
 use Rattle.sedna_exact.proofs.Bytes.{bytes-behind, bytes-part}
 use Rattle.sedna_exact.proofs.Exact.{exact}
 use Rattle.sedna_read.specs.Meaning.{meaning}

@@ -17,7 +17,7 @@ use Rattle.sedna.specs.Published.{Published}
 use Rattle.sedna_write.specs.declared.Written.{Written}
 use Rattle.sedna_write.specs.declared.Written.the-variants.{Bytes, Refused}
 use Rattle.sedna_write.specs.Writing.{written}
-use Rattle.sedna_exact.proofs.Branches.{apart}
+use Rattle.wire.proofs.Branches.{apart}
 use Rattle.fragments.specs.Part.{writtenOf, partLeft}
 use Rattle.fragments_exact.specs.PartDue.{PartRight}
 use Rattle.fragments_exact.specs.ThroughBytes.{Uncut, sender, cut, permitted, encodable, Allowed, Fits, Slices, partAnswer, partBytes}

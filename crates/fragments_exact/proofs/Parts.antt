@@ -21,7 +21,7 @@ use Rattle.sedna_read.specs.Reading.{Answer, reading}
 use Rattle.sedna_write.specs.declared.Written.the-variants.{Bytes, Refused}
 use Rattle.sedna_write.specs.Writing.{written, left}
 use Rattle.sedna_exact.specs.Unwritten.{Unwritten}
-use Rattle.sedna_exact.proofs.Branches.{apart}
+use Rattle.wire.proofs.Branches.{apart}
 use Rattle.sedna_exact.proofs.Meaning.{accepted-means}
 use Rattle.sedna_exact.proofs.Unwritten.{unwritten-exact}
 use Rattle.sedna_exact.proofs.Written.{written-forth, front-written, read-written}

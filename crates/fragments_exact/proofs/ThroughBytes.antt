@@ -26,7 +26,7 @@ use Rattle.sedna_write.specs.declared.Written.{Written}
 use Rattle.sedna_write.specs.declared.Written.the-variants.{Bytes, Refused}
 use Rattle.sedna_write.specs.Writing.{written, left}
 use Rattle.sedna_exact.proofs.Bounds.{bytes-none}
-use Rattle.sedna_exact.proofs.Branches.{apart}
+use Rattle.wire.proofs.Branches.{apart}
 use Rattle.sedna_exact.proofs.Table.{listed-find}
 use Rattle.sedna_exact.proofs.Written.{encode-length}
 use Rattle.fragments.specs.Part.{writtenOf, partLeft}

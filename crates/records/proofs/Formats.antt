@@ -11,7 +11,7 @@ use borrow.Author.Tests.{le-ltb, eqb-true, ltb-false}
 use Rattle.wire.specs.Bytes.{IsBytes, if}
 use Rattle.sedna.specs.declared.Side.{Side}
 use Rattle.sedna.specs.declared.Side.the-variants.{Client, Server}
-use Rattle.sedna_exact.proofs.Branches.{apart, either}
+use Rattle.wire.proofs.Branches.{apart, either}
 use Rattle.sedna_exact.proofs.Bytes.{bytes-front, bytes-behind}
 use Rattle.records.specs.declared.Head.{Head}
 use Rattle.records.specs.declared.Head.the-variants as head

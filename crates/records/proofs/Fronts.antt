@@ -11,7 +11,7 @@ use borrow.Author.Tests.{lt-ltb, le-ltb, ltb-true, ltb-false}
 use Rattle.wire.specs.Bytes.{if}
 use Rattle.wire.specs.declared.Place.{Place}
 use Rattle.sedna.specs.declared.Side.{Side}
-use Rattle.sedna_exact.proofs.Branches.{apart, either}
+use Rattle.wire.proofs.Branches.{apart, either}
 use Rattle.records.specs.declared.Head.{Head}
 use Rattle.records.specs.declared.Head.the-variants as head
 use Rattle.records.specs.declared.Next.the-variants as next

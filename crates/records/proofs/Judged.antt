@@ -14,7 +14,7 @@ use Rattle.wire.specs.declared.Refusal.{Refusal}
 use Rattle.wire.specs.declared.Refusal.the-variants.{OutOfOrder}
 use Rattle.sedna.specs.declared.Side.{Side}
 use Rattle.sedna.specs.Message.{Body, Message}
-use Rattle.sedna_exact.proofs.Branches.{apart, either}
+use Rattle.wire.proofs.Branches.{apart, either}
 use Rattle.sedna_exact.proofs.Heads.{head-back}
 use Rattle.sedna_exact.proofs.Refusals.{reading-refusals}
 use Rattle.sedna_read.specs.declared.Places.{Places}

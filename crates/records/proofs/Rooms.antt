@@ -10,7 +10,7 @@ use Rattle.wire.specs.Bytes.{placed}
 use Rattle.wire.specs.declared.Refusal.{Refusal}
 use Rattle.wire.specs.declared.Refusal.the-variants.{NoRoom}
 use Rattle.wire.proofs.Over.{placed-not}
-use Rattle.sedna_exact.proofs.Branches.{apart, either}
+use Rattle.wire.proofs.Branches.{apart, either}
 use Rattle.session.specs.declared.Session.{Session}
 use Rattle.records.specs.declared.Answered.{Answered}
 use Rattle.records.specs.declared.Lined.{Lined}

@@ -16,7 +16,7 @@ use Rattle.sedna.specs.Published.{Published, Front}
 use Rattle.wire.specs.Fields.{Got}
 use Rattle.sedna_read.specs.Reading.{Heading, Answer, bodyField, heading, answered, afterHead, reading}
 use Rattle.sedna_exact.specs.Due.{Head}
-use Rattle.sedna_exact.proofs.Branches.{apart, either}
+use Rattle.wire.proofs.Branches.{apart, either}
 use Rattle.sedna_exact.proofs.Bytes.{bytes-part, int-written}
 use Rattle.sedna_exact.proofs.Bodies.{Read, body-forth, body-back}
 use Rattle.sedna_exact.proofs.Heads.{head-forth, head-back, head-bytes}

@@ -13,7 +13,7 @@ use Rattle.sedna.specs.Encode.{string, urlBytes, pairsBytes, bodyBytes}
 use Rattle.wire.specs.Fields.{Got, goOn, _>>_, give}
 use Rattle.sedna_read.specs.Fields.{byteField, intField, stringField, nothingLeft}
 use Rattle.sedna_read.specs.Reading.{sessionFields, textFields, statementFields, codedFields, pairsField, optionsFields, itemFields, fieldsOf, bodyField}
-use Rattle.sedna_exact.proofs.Branches.{apart, both}
+use Rattle.wire.proofs.Branches.{apart, both}
 use Rattle.sedna_exact.proofs.Bytes.{bytes-behind}
 use Rattle.sedna_exact.proofs.Steps.{past, passed, given}
 use Rattle.sedna_exact.proofs.Fields.{byte-back, int-forth, int-back, string-forth, string-back}

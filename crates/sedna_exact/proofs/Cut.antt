@@ -21,7 +21,7 @@ use Rattle.sedna_read.specs.Fields.{nothingLeft}
 use Rattle.sedna_read.specs.Reading.{sessionFields, fieldsOf, bodyField}
 use Rattle.sedna_exact.specs.Due.{IsBody, CutShort, LeftOver}
 use Rattle.sedna_exact.proofs.Bodies.{fields-back, body-forth, body-back}
-use Rattle.sedna_exact.proofs.Branches.{apart}
+use Rattle.wire.proofs.Branches.{apart}
 use Rattle.sedna_exact.proofs.Completes.{bytes-both, fields-complete}
 use Rattle.sedna_exact.proofs.LeftOver.{left-over-exact}
 use Rattle.sedna_exact.proofs.Persist.{fields-persist}

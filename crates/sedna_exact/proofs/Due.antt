@@ -21,7 +21,7 @@ use Rattle.sedna.specs.Message.{Body}
 use Rattle.sedna.specs.Table.{InTable, findOf}
 use Rattle.sedna_read.specs.Reading.{bodyField, Heading, headOf, heading, Answer, answered, afterHead, reading}
 use Rattle.sedna_exact.specs.Due.{Head, Due}
-use Rattle.sedna_exact.proofs.Branches.{apart, either}
+use Rattle.wire.proofs.Branches.{apart, either}
 use Rattle.sedna_exact.proofs.Bytes.{bytes-part}
 use Rattle.sedna_exact.proofs.Heads.{same-back, same-forth, head-forth, head-back}
 use Rattle.sedna_exact.proofs.InBody.{in-body-exact}

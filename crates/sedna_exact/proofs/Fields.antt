@@ -11,7 +11,7 @@ use Rattle.wire.specs.Bytes.{IsBytes, int}
 use Rattle.sedna.specs.Encode.{string}
 use Rattle.wire.specs.Fields.{Got}
 use Rattle.sedna_read.specs.Fields.{byteField, intField, bytesField, stringField}
-use Rattle.sedna_exact.proofs.Branches.{apart, either}
+use Rattle.wire.proofs.Branches.{apart, either}
 use Rattle.sedna_exact.proofs.Bytes.{bytes-behind, int-small, int-written, int-read}
 use Rattle.sedna_exact.proofs.Steps.{Forth, Back, past, passed, given}
 

@@ -17,7 +17,7 @@ use Rattle.sedna.specs.Kinds.{sameSide}
 use Rattle.sedna.specs.Table.{InTable, findOf}
 use Rattle.sedna_read.specs.Reading.{Heading, headOf, heading}
 use Rattle.sedna_exact.specs.Due.{Head}
-use Rattle.sedna_exact.proofs.Branches.{apart, either}
+use Rattle.wire.proofs.Branches.{apart, either}
 use Rattle.sedna_exact.proofs.Bytes.{int-read}
 use Rattle.sedna_exact.proofs.Table.{find-listed, listed-find}
 

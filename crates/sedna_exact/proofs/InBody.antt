@@ -13,7 +13,7 @@ use Rattle.sedna_read.specs.Fields.{nothingLeft}
 use Rattle.sedna_read.specs.Reading.{fieldsOf, bodyField}
 use Rattle.sedna_exact.specs.Due.{InBody}
 use Rattle.sedna_exact.specs.Pieces.{WrongField}
-use Rattle.sedna_exact.proofs.Branches.{apart}
+use Rattle.wire.proofs.Branches.{apart}
 use Rattle.sedna_exact.proofs.Cut.{Among, cut-exact}
 use Rattle.sedna_exact.proofs.LeftOver.{left-over-exact}
 use Rattle.sedna_exact.proofs.Refusals.{GotIn, body-refuses}

@@ -18,7 +18,7 @@ use Rattle.sedna_read.specs.Fields.{nothingLeft}
 use Rattle.sedna_read.specs.Reading.{pairField, pairsField, optionsFields, fieldsOf, bodyField}
 use Rattle.sedna_exact.specs.Due.{LeftOver}
 use Rattle.sedna_exact.proofs.Bodies.{Ends, fields-forth, fields-back}
-use Rattle.sedna_exact.proofs.Branches.{apart}
+use Rattle.wire.proofs.Branches.{apart}
 use Rattle.sedna_exact.proofs.Pairs.{pair-back}
 use Rattle.sedna_exact.proofs.Refusals.{GotIn, fields-refuse}
 use Rattle.sedna_exact.proofs.Steps.{past, given}

@@ -1,7 +1,6 @@
 pub mod Accepted
 pub mod Bodies
 pub mod Bounds
-pub mod Branches
 pub mod Bytes
 pub mod Completes
 pub mod Cut

@@ -25,7 +25,7 @@ use Rattle.sedna_write.specs.declared.Written.the-variants.{Refused}
 use Rattle.sedna_write.specs.Pairs.{sum, given, pairsOf, optionsWritten, optionsLeft}
 use Rattle.sedna_write.specs.Writing.{judgedAs, judgement, written}
 use Rattle.sedna_exact.specs.Unwritten.{UnwrittenLists}
-use Rattle.sedna_exact.proofs.Branches.{both}
+use Rattle.wire.proofs.Branches.{both}
 use Rattle.sedna_exact.proofs.Due.{lacking, lacks}
 use Rattle.sedna_exact.proofs.Table.{find-listed, listed-find}
 

@@ -16,7 +16,7 @@ use Rattle.sedna_read.specs.Reading.{Answer, reading, pairField}
 use Rattle.sedna_read.specs.declared.OptionPlace.the-variants as option
 use Rattle.sedna_read.specs.Places.{place, optionPlace, optionAfter, optionAt}
 use Rattle.sedna_read.specs.Meaning.{optionIn}
-use Rattle.sedna_exact.proofs.Branches.{apart}
+use Rattle.wire.proofs.Branches.{apart}
 use Rattle.sedna_exact.proofs.Bytes.{bytes-behind}
 use Rattle.sedna_exact.proofs.Pairs.{pair-forth, pair-back}
 use Rattle.sedna_exact.proofs.Parts.{stands-behind, string-behind, body-stands}

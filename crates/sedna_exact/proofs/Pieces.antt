@@ -11,7 +11,7 @@ use Rattle.sedna.specs.Allowed.{allowed, versionAllowed, formatAllowed, classAl
 use Rattle.sedna.specs.Encode.{string, urlBytes, pairBytes, pairsBytes, bodyBytes}
 use Rattle.sedna.specs.Message.{Url, Pair, Body, shapeOf}
 use Rattle.sedna_exact.specs.Pieces.{Piece, piecesBytes, pairPieces, piecesOf, Comes}
-use Rattle.sedna_exact.proofs.Branches.{both}
+use Rattle.wire.proofs.Branches.{both}
 
 -- the fields are those of the encoding
 pairs-bytes : (ps : List Pair) → piecesBytes (pairPieces ps) ≡ pairsBytes ps

@@ -6,7 +6,7 @@ use Prim.Native.Nat.{ℕ}
 use Rattle.wire.specs.declared.Refusal.{Refusal}
 use Rattle.wire.specs.Bytes.{IsBytes}
 use Rattle.wire.specs.Fields.{Got, Field, goOn, judged}
-use Rattle.sedna_exact.proofs.Branches.{apart}
+use Rattle.wire.proofs.Branches.{apart}
 use Rattle.sedna_exact.proofs.Bytes.{bytes-behind}
 
 -- the bytes of a value, and whatever stands behind them, are read as the value

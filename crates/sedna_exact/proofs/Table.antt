@@ -14,7 +14,7 @@ use Rattle.sedna.specs.declared.Entry.{Entry}
 use Rattle.sedna.specs.declared.Found.{Found}
 use Rattle.sedna.specs.declared.Found.the-variants.{Known}
 use Rattle.sedna.specs.Table.{rows, InTable, search, findOf}
-use Rattle.sedna_exact.proofs.Branches.{apart, either, both}
+use Rattle.wire.proofs.Branches.{apart, either, both}
 
 -- what the table says of an entry's instruction, and what the entry says
 abbrev finding : Entry → Found

@@ -21,7 +21,7 @@ use Rattle.sedna.specs.Table.{InTable, findOf, fitOf}
 use Rattle.sedna_write.specs.declared.Written.the-variants.{Refused}
 use Rattle.sedna_write.specs.Writing.{judgedAs, judgement, written}
 use Rattle.sedna_exact.specs.Unwritten.{Unwritten}
-use Rattle.sedna_exact.proofs.Branches.{apart, either}
+use Rattle.wire.proofs.Branches.{apart, either}
 use Rattle.sedna_exact.proofs.Due.{lacking, lacks}
 use Rattle.sedna_exact.proofs.Table.{find-listed, listed-find}
 use Rattle.sedna_exact.proofs.Written.{same-shape, encode-length, fitted}

@@ -27,7 +27,7 @@ use Rattle.sedna_write.specs.declared.Written.{Written}
 use Rattle.sedna_write.specs.declared.Written.the-variants.{Bytes}
 use Rattle.sedna_write.specs.Writing.{judgedAs, judgement, written, left}
 use Rattle.sedna_exact.specs.Pieces.{Bounded}
-use Rattle.sedna_exact.proofs.Branches.{apart, either}
+use Rattle.wire.proofs.Branches.{apart, either}
 use Rattle.sedna_exact.proofs.Bounds.{bounds}
 use Rattle.sedna_exact.proofs.Exact.{exact, published-accepted}
 use Rattle.sedna_exact.proofs.Table.{find-listed, listed-find}

@@ -19,7 +19,7 @@ use Rattle.sedna.specs.Message.{Url, Pair, Body}
 use Rattle.sedna_read.specs.Fields.{byteField, intField, bytesField, stringField}
 use Rattle.sedna_read.specs.Reading.{sessionFields, textFields, statementFields, codedFields, pairField, pairsField, optionsFields, urlField, itemFields, fieldsOf}
 use Rattle.sedna_exact.specs.Pieces.{Piece, piecesBytes, pairPieces, Comes, Wrong, WrongField}
-use Rattle.sedna_exact.proofs.Branches.{apart, either, both}
+use Rattle.wire.proofs.Branches.{apart, either, both}
 use Rattle.sedna_exact.proofs.Bytes.{bytes-behind}
 use Rattle.sedna_exact.proofs.Fields.{byte-back, int-back, string-back}
 use Rattle.sedna_exact.proofs.Pairs.{pair-back, pairs-back}

@@ -19,7 +19,7 @@ use Rattle.sedna.specs.Message.{Url, Pair, Body}
 use Rattle.sedna_read.specs.Fields.{stringField}
 use Rattle.sedna_read.specs.Reading.{sessionFields, textFields, statementFields, codedFields, pairField, pairsField, optionsFields, urlField, itemFields, fieldsOf}
 use Rattle.sedna_exact.specs.Pieces.{Piece, piecesBytes, pairPieces, urlPieces, piecesOf, Comes, Wrong, WrongField}
-use Rattle.sedna_exact.proofs.Branches.{apart, both}
+use Rattle.wire.proofs.Branches.{apart, both}
 use Rattle.sedna_exact.proofs.Bytes.{bytes-behind}
 use Rattle.sedna_exact.proofs.Fields.{int-forth, string-forth}
 use Rattle.sedna_exact.proofs.Pairs.{pair-forth}

@@ -18,7 +18,7 @@ use Rattle.sedna.specs.Kinds.{shapeNumber}
 use Rattle.sedna.specs.Message.{Body, Message, shapeOf, message}
 use Rattle.sedna.specs.Published.{Published}
 use Rattle.sedna.specs.Table.{findOf, shaped}
-use Rattle.sedna_exact.proofs.Branches.{both}
+use Rattle.wire.proofs.Branches.{both}
 use Rattle.sedna_exact.proofs.Table.{find-listed, listed-find}
 use Rattle.sedna_exact.proofs.Written.{same-shape}
 use Rattle.grammar.specs.Conversation.{Begins}

@@ -11,7 +11,7 @@ use Rattle.wire.specs.declared.Refusal.{Refusal}
 use Rattle.wire.specs.declared.Refusal.the-variants.{OutOfOrder}
 use Rattle.sedna.specs.declared.Side.{Side}
 use Rattle.sedna.specs.Message.{Message}
-use Rattle.sedna_exact.proofs.Branches.{apart}
+use Rattle.wire.proofs.Branches.{apart}
 use Rattle.sedna_exact.proofs.Refusals.{reading-refusals}
 use Rattle.sedna_read.specs.declared.Reading.the-variants as read
 use Rattle.sedna_read.specs.Places.{located}

@@ -21,7 +21,8 @@ use Rattle.sedna.specs.Message.{Body, Message, message, shapeOf}
 use Rattle.sedna.specs.Names as M
 use Rattle.sedna.specs.Published.{Published}
 use Rattle.sedna.specs.Table.{findOf, rows, search}
-use Rattle.sedna_exact.proofs.Branches.{apart, both}
+use Rattle.wire.proofs.Below.{upTo, below}
+use Rattle.wire.proofs.Branches.{apart, both}
 use Rattle.sedna_exact.proofs.Table.{find-listed}
 use Rattle.sedna_read.specs.Reading.{Answer}
 use Rattle.grammar.specs.Conversation.{Whole, Begins}
@@ -37,22 +38,6 @@ use Rattle.session.proofs.Rows.{broken-row}
 use Rattle.session_exact.proofs.Follows.{Follows, fresh-follows, begins, whole-closed, last-closed, Settled, settles, taken, nine}
 use Rattle.session_exact.proofs.Kept.{Sender, sender, is}
 use Rattle.session_exact.proofs.Published.{published-sent, published-exact}
-
--- a test of all numbers below n
-abbrev upTo : (ℕ → Bool) → ℕ → Bool
-upTo f zero = true
-upTo f (suc n) = if (f n) (upTo f n) false
-
-below : (f : ℕ → Bool) (n k : ℕ) → upTo f n ≡ true → k < n → f k ≡ true
-below f zero k h l = absurd (omega arith)
-below f (suc n) k h l = by (ltb k n) refl (λ g. below f n k (both (f n) (upTo f n) .0 h .1) g)
-  where
-    by : (t : Bool) → ltb k n ≡ t → (k < n → f k ≡ true) → f k ≡ true
-    by true e sooner = sooner (ltb-true k n e)
-    by false e sooner =
-        let g : n ≤ k = ltb-false k n e in
-        let same : k ≡ n = omega arith in
-        ap f same ∙ both (f n) (upTo f n) .0 h .0
 
 -- at each of the client's phases a message that it may send there
 asks : List Message

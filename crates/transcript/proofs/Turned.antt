@@ -9,7 +9,7 @@ use borrow.Author.Tests.{le-ltb}
 use Rattle.wire.specs.Bytes.{if}
 use Rattle.wire.specs.declared.Refusal.{Refusal}
 use Rattle.wire.specs.declared.Refusal.the-variants.{NoRoom}
-use Rattle.sedna_exact.proofs.Branches.{apart}
+use Rattle.wire.proofs.Branches.{apart}
 use Rattle.session.specs.declared.Session.{Session}
 use Rattle.records.specs.declared.Lined.{Lined}
 use Rattle.records.specs.declared.Lined.the-variants as lined

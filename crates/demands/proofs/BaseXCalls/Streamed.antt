@@ -12,7 +12,7 @@ use Rattle.basex.specs.Kinds.{findOf, ahead, listed, isFull}
 use Rattle.basex.specs.Texts.{strings}
 use Rattle.basex.specs.Response.{Item, Response, itemBytes, itemsBytes, encode, ItemAllowed, ItemsAllowed, ListAllowed, Published, Stands}
 use Rattle.basex_exact.specs.Calls.{listedOf}
-use Rattle.basex_exact.proofs.Chosen.{apart}
+use Rattle.wire.proofs.Branches.{apart}
 use Rattle.demands.specs.BaseXCalls.{Lendable, Lists, ItemRead, ItemsEnd, itemCalled, withItems, countOf, streamed}
 use Rattle.demands.proofs.BaseXCalls.Taken.{item-taken, item-none}
 

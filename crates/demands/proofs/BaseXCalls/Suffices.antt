@@ -19,7 +19,7 @@ use Rattle.basex_request.specs.Reading.{textsOf}
 use Rattle.basex_request.proofs.Laws as request-laws
 use Rattle.basex_response.specs.Reading as responses
 use Rattle.basex_response.specs.Reading.{allTexts}
-use Rattle.basex_exact.proofs.Chosen.{apart}
+use Rattle.wire.proofs.Branches.{apart}
 use Rattle.basex_exact.proofs.Exactly.{input-suffices}
 use Rattle.basex_exact.proofs.Listed.{OfFields, same}
 use Rattle.basex_exact.proofs.Refusals.{reading-refuses}

@@ -20,7 +20,7 @@ use Rattle.basex_response.specs.Reading as responses
 use Rattle.basex_response.specs.Reading.{allTexts}
 use Rattle.basex_response.specs.Writing.{itemOf, fullOf}
 use Rattle.basex_exact.specs.Calls.{listedOf, handed, taken}
-use Rattle.basex_exact.proofs.Chosen.{apart}
+use Rattle.wire.proofs.Branches.{apart}
 use Rattle.basex_exact.proofs.Exactly.{told-exactly}
 use Rattle.basex_exact.proofs.Laws.{items-all}
 use Rattle.basex_exact.proofs.Responses.{response-exact}
