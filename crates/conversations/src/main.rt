@@ -12,7 +12,6 @@ mod message;
 mod replay;
 mod text;
 
-use libc::STDIN_FILENO;
 use lines::cut::behind;
 use lines::cut::first;
 use lines::cut::front;
@@ -58,27 +57,10 @@ fn show(line: &[u8]) {
     say(b"\n");
 }
 
-// Reads one line with its end, byte by byte so that nothing behind it is taken from the input.
-// Answers how many bytes; 0 at the end of the input.
-fn read_line(buffer: &mut [u8]) -> usize {
-    let mut n = 0;
-    while n < buffer.len() {
-        let end = n + 1;
-        if io::read_full(STDIN_FILENO, &mut buffer[n..end]) == 0 {
-            return n;
-        }
-        if buffer[n] == b'\n' {
-            return end;
-        }
-        n = end;
-    }
-    n
-}
-
 // Whether there was one more line.
 fn next_line() -> bool {
     let mut buffer = io::buffer();
-    let n = read_line(&mut buffer);
+    let n = lines::input::line(&mut buffer);
     if n == 0 {
         return false;
     }
