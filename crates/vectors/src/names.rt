@@ -1,4 +1,4 @@
-// Document 01's words: the refusals, and the messages' names.
+// The documents' words: the refusals, and the messages' names.
 use lines::cut::behind;
 use lines::cut::front;
 use lines::parse::Number;
@@ -8,7 +8,7 @@ use lines::print::say;
 use sedna::Side;
 use wire::Refusal;
 
-// The table "Refusal numbers".
+// The table "Refusal numbers", with those that document 02 adds.
 pub fn refused(r: Refusal) {
     let n = wire::number(r);
     say(b"refused ");
@@ -28,7 +28,9 @@ pub fn refused(r: Refusal) {
 11 value has no encoding (body above 10,240; BaseX command start)
 12 item or statement longer than its gathering buffer
 13 FF followed by a byte other than 00 or FF
-14 no such part of a cut",
+14 no such part of a cut
+15 another class, a type not named, or text not of its form
+16 value out of range, a missing zone, more digits than named, or a double with an exponent, INF or NaN",
         n as u32,
     );
 }

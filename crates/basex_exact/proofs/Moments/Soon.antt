@@ -9,7 +9,7 @@ use lib.Seq.{append-snoc}
 use Rattle.wire.specs.Fields.{Got, Field}
 use Rattle.wire.specs.Refusals.{numberOf}
 use Rattle.wire.specs.declared.Refusal.{Refusal}
-use Rattle.wire.specs.declared.Refusal.the-variants.{MoreBytes, UnknownInstruction, OtherSide, BodyTooLong, FieldCut, StringFormat, BytesLeftOver, ValueNotAllowed, OutOfOrder, NoRoom, NoEncoding, BufferOverrun, BadEscape, NoSuchPart}
+use Rattle.wire.specs.declared.Refusal.the-variants.{MoreBytes, UnknownInstruction, OtherSide, BodyTooLong, FieldCut, StringFormat, BytesLeftOver, ValueNotAllowed, OutOfOrder, NoRoom, NoEncoding, BufferOverrun, BadEscape, NoSuchPart, NotOfForm, OutOfRange}
 use Rattle.basex_exact.specs.Moments.{Encoded, Begun, Broken, Otherwise}
 use Rattle.basex_exact.proofs.Moments.Order.{Parting, part}
 
@@ -32,6 +32,8 @@ one? r = by r (λ k p. k (ap numberOf p))
     by BufferOverrun f = inr (f (omega arith))
     by BadEscape f = inr (f (omega arith))
     by NoSuchPart f = inr (f (omega arith))
+    by NotOfForm f = inr (f (omega arith))
+    by OutOfRange f = inr (f (omega arith))
 
 module _ {A : Type 0} (field : Field A) (Good : A → Type 0) (bytes : A → List ℕ) (exact : (s : List ℕ) (a : A) (rest : List ℕ) → (field s ≡ Got.got a rest) ↔ (Good a × (s ≡ bytes a ++ rest))) (more : (s : List ℕ) → (field s ≡ Got.refused MoreBytes) ↔ Begun (Encoded Good bytes) s) where
   whole-got : (s : List ℕ) → Encoded Good bytes s → (a : A) × (field s ≡ Got.got a [])

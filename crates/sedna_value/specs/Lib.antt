@@ -1,0 +1,4 @@
+pub mod Wholes
+pub mod Booleans
+pub mod Doubles
+pub mod Values
