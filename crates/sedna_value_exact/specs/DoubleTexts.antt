@@ -1,0 +1,88 @@
+-- Document 02, request 1: "A double is an optional sign, one to fifteen digits, optionally with a point among or beside them", and what XML Schema has
+-- besides, an exponent, INF, -INF and NaN. No reader is known here.
+use mathlib.Core.Bool.{Bool, true, false}
+use mathlib.Core.List.{List, [], _++_}
+use mathlib.Core.Path.{_≡_}
+use Prim.Native.Nat.{ℕ, _+_, _^_, _≤_, _<_}
+use lib.Ieee.{Float, binary64, round, neg}
+use lib.ListN.{length}
+use Rattle.sedna_digits.specs.Numbers.{number, AreDigits, text}
+use Rattle.sedna_value.specs.declared.Value.{Value}
+use Rattle.sedna_value.specs.declared.Value.the-variants.{Double}
+use Rattle.sedna_value_exact.specs.Ascii.{ascii}
+use Rattle.sedna_value_exact.specs.Signs.{Sign, signText, isMinus}
+
+-- digits without a point, or those before it and those behind it
+pub data Mantissa : Type 0 where
+  plain : List ℕ → Mantissa
+  pointed : List ℕ → List ℕ → Mantissa
+
+abbrev pub mantissaText : Mantissa → List ℕ
+mantissaText (Mantissa.plain ds) = text ds
+mantissaText (Mantissa.pointed before behind) = text before ++ (ascii "." ++ text behind)
+
+-- all of its digits, and how many of them stand behind the point
+abbrev pub digits : Mantissa → List ℕ
+digits (Mantissa.plain ds) = ds
+digits (Mantissa.pointed before behind) = before ++ behind
+
+abbrev pub places : Mantissa → ℕ
+places (Mantissa.plain ds) = 0
+places (Mantissa.pointed before behind) = length behind
+
+-- none, or E or e with an optional sign and digits
+pub data Exponent : Type 0 where
+  none : Exponent
+  upper lower : Sign → List ℕ → Exponent
+
+abbrev pub exponentText : Exponent → List ℕ
+exponentText Exponent.none = []
+exponentText (Exponent.upper sign ds) = ascii "E" ++ signText sign ++ text ds
+exponentText (Exponent.lower sign ds) = ascii "e" ++ signText sign ++ text ds
+
+abbrev FormedExponent : Exponent → Type 0
+FormedExponent Exponent.none = Unit {0}
+FormedExponent (Exponent.upper sign ds) = (0 < length ds) × AreDigits ds
+FormedExponent (Exponent.lower sign ds) = (0 < length ds) × AreDigits ds
+
+pub data DoubleText : Type 0 where
+  decimal : Sign → Mantissa → Exponent → DoubleText
+  inf -inf nan : DoubleText
+
+abbrev pub written : DoubleText → List ℕ
+written (DoubleText.decimal sign d e) = signText sign ++ mantissaText d ++ exponentText e
+written DoubleText.inf = ascii "INF"
+written DoubleText.-inf = ascii "-INF"
+written DoubleText.nan = ascii "NaN"
+
+abbrev pub Formed : DoubleText → Type 0
+Formed (DoubleText.decimal sign d e) = (0 < length (digits d)) × AreDigits (digits d) × FormedExponent e
+Formed DoubleText.inf = Unit {0}
+Formed DoubleText.-inf = Unit {0}
+Formed DoubleText.nan = Unit {0}
+
+-- "negated for a minus sign"
+abbrev pub negated : Bool → Float → Float
+negated true x = neg x
+negated false x = x
+
+-- "the one rounded division of the digits by the power of ten": the double nearest to the fraction, a tie to the even one
+abbrev pub meant : Sign → Mantissa → Float
+meant sign d = negated (isMinus sign) (round binary64 false (number (digits d)) (10 ^ places d))
+
+abbrev pub Means : DoubleText → Value → Type 0
+Means (DoubleText.decimal sign d Exponent.none) v = (length (digits d) ≤ 15) × (v ≡ Double (meant sign d))
+Means (DoubleText.decimal sign d (Exponent.upper s ds)) v = ⊥
+Means (DoubleText.decimal sign d (Exponent.lower s ds)) v = ⊥
+Means DoubleText.inf v = ⊥
+Means DoubleText.-inf v = ⊥
+Means DoubleText.nan v = ⊥
+
+-- 16: "more digits than named, or a double with an exponent, INF or NaN"
+abbrev pub Beyond : DoubleText → Type 0
+Beyond (DoubleText.decimal sign d Exponent.none) = 15 < length (digits d)
+Beyond (DoubleText.decimal sign d (Exponent.upper s ds)) = Unit {0}
+Beyond (DoubleText.decimal sign d (Exponent.lower s ds)) = Unit {0}
+Beyond DoubleText.inf = Unit {0}
+Beyond DoubleText.-inf = Unit {0}
+Beyond DoubleText.nan = Unit {0}

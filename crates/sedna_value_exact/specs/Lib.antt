@@ -1,0 +1,14 @@
+pub mod Ascii
+pub mod Types
+pub mod Signs
+pub mod WholeTexts
+pub mod BooleanTexts
+pub mod DoubleTexts
+pub mod Division
+pub mod DateTimeTexts
+pub mod Counting
+pub mod Texts
+pub mod Exactly
+pub mod Order
+pub mod Incident
+pub mod Examples
