@@ -10,3 +10,5 @@ pub mod Refused
 pub mod SednaCalls
 pub mod Tells
 pub mod Transcript
+pub mod ValueCalls
+pub mod Request1

@@ -10,3 +10,5 @@ pub mod Header
 pub mod PartsCalls
 pub mod SednaCalls
 pub mod Transcript
+pub mod ValueCalls
+pub mod Request1
