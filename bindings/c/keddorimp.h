@@ -1,17 +1,19 @@
 /* Keddorimp for C and C++: the Sedna client/server protocol, 1.0 to 4.0, and the BaseX protocol.
  *
- * The functions stand in three archives for x86-64, which `rt staticlib NAME` writes to
+ * The functions stand in four archives for x86-64, which `rt staticlib NAME` writes to
  * target/staticlib/libNAME.a:
  *
  *     sedna_c   reading and writing messages; the session
  *     parts_c   cutting and joining
+ *     value_c   typed values of items, and the order of instants
  *     basex_c   BaseX strings, requests and responses
  *
  * `bindings/c/build NAME SOURCE..` builds a program over them.
  *
  * What is proved is the contract that each function has in the crate of that name. That this header
  * declares the functions as they are is not proved: it is written by hand, and tests/c/run calls
- * each of them through it. "Document 01" is the paper whose numbers and words these are.
+ * each of them through it. "Document 01" is the paper whose numbers and words these are; typed
+ * values, with refusals 15 and 16, are request 1 of "document 02".
  *
  * Lent memory. A slice passes as a pointer to its first element and the number of its elements, one
  * argument behind the other. The proofs rest on what a caller in C has to see to: so many elements
@@ -26,11 +28,12 @@
  *
  * Answers. An answer below 2^63 is a count (of bytes read or written, or of parts), one above it is
  * a refusal, its number on top of 2^63. Where a call has neither bytes nor parts to count, it is 0
- * or 1, as its comment says (kdr_fresh, kdr_open, kdr_option, kdr_basex_error); kdr_closed and
- * kdr_turn answer a plain byte, and refuse nothing. A refusal leaves every lent byte and number as
- * it was, with one exception (KDR_BUFFER_OVERRUN, at kdr_join). What is told beside a count goes to
- * the front of lent numbers. The comments name the refusals in the order in which they are judged:
- * a call that deserves two gets the first.
+ * or 1, as its comment says (kdr_fresh, kdr_open, kdr_option, kdr_basex_error), or says what the
+ * value is (kdr_value); kdr_closed, kdr_turn and kdr_compare answer a plain number, and refuse
+ * nothing. A refusal leaves every lent byte and number as it was, with one exception
+ * (KDR_BUFFER_OVERRUN, at kdr_join). What is told beside the answer goes to the front of lent
+ * numbers. The comments name the refusals in the order in which they are judged: a call that
+ * deserves two gets the first.
  */
 #ifndef KEDDORIMP_H
 #define KEDDORIMP_H
@@ -48,13 +51,14 @@ typedef char kdr_a_length_has_64_bits[sizeof(size_t) == 8 ? 1 : -1];
 
 /* The version of this header and of the archives that it was written for. */
 #define KDR_VERSION_MAJOR 0
-#define KDR_VERSION_MINOR 1
+#define KDR_VERSION_MINOR 2
 #define KDR_VERSION_PATCH 0
-#define KDR_VERSION "0.1.0"
+#define KDR_VERSION "0.2.0"
 
 /* ---- Refusals ---- */
 
-/* Document 01, "Refusal numbers"; kdr_refusal_text has its words. */
+/* Document 01's "Refusal numbers", and document 02's, which join them; kdr_refusal_text has their
+ * words. */
 enum kdr_refusal_number {
     KDR_MORE_BYTES = 1,
     KDR_UNKNOWN_INSTRUCTION = 2,
@@ -69,7 +73,9 @@ enum kdr_refusal_number {
     KDR_NO_ENCODING = 11,
     KDR_BUFFER_OVERRUN = 12,
     KDR_BAD_ESCAPE = 13,
-    KDR_NO_SUCH_PART = 14
+    KDR_NO_SUCH_PART = 14,
+    KDR_NOT_OF_FORM = 15,
+    KDR_OUT_OF_RANGE = 16
 };
 
 /* What a refusal's number stands on top of. No memory has half as many bytes, so no count gets
@@ -88,7 +94,7 @@ static inline unsigned kdr_refusal(uint64_t answer)
     return kdr_refused(answer) ? (unsigned)(answer - KDR_REFUSED) : 0;
 }
 
-/* Document 01's words for the number of a refusal; any other number has none, and is told so. */
+/* The documents' words for the number of a refusal; any other number has none, and is told so. */
 static inline const char *kdr_refusal_text(unsigned number)
 {
     switch (number) {
@@ -107,6 +113,9 @@ static inline const char *kdr_refusal_text(unsigned number)
     case KDR_BUFFER_OVERRUN: return "item or statement longer than its gathering buffer";
     case KDR_BAD_ESCAPE: return "FF followed by a byte other than 00 or FF";
     case KDR_NO_SUCH_PART: return "no such part of a cut";
+    case KDR_NOT_OF_FORM: return "another class, a type not named, or text not of its form";
+    case KDR_OUT_OF_RANGE: return "value out of range, a missing zone, more digits than named, or "
+                                  "a double with an exponent, INF or NaN";
     default: return "there is no such refusal";
     }
 }
@@ -433,6 +442,74 @@ uint64_t kdr_open(uint64_t *assembly, size_t assembly_len, uint64_t what);
 uint64_t kdr_join(uint64_t *assembly, size_t assembly_len, uint8_t *buffer, size_t buffer_len,
                   uint8_t side, const uint8_t *bytes, size_t bytes_len,
                   uint64_t *told, size_t told_len);
+
+/* ---- Typed values (value_c) ---- */
+
+/* Sedna's numbers of the types that have a value, and no other type has one. The names are XML
+ * Schema's, spelled as it spells them. */
+enum kdr_item_type {
+    KDR_TYPE_dateTime = 10,
+    KDR_TYPE_double = 22,
+    KDR_TYPE_integer = 24,
+    KDR_TYPE_boolean = 25,
+    KDR_TYPE_nonPositiveInteger = 50,
+    KDR_TYPE_negativeInteger = 51,
+    KDR_TYPE_long = 52,
+    KDR_TYPE_int = 53,
+    KDR_TYPE_short = 54,
+    KDR_TYPE_byte = 55,
+    KDR_TYPE_nonNegativeInteger = 56,
+    KDR_TYPE_unsignedLong = 57,
+    KDR_TYPE_unsignedInt = 58,
+    KDR_TYPE_unsignedShort = 59,
+    KDR_TYPE_unsignedByte = 60,
+    KDR_TYPE_positiveInteger = 61
+};
+
+/* What a value is. */
+enum kdr_value_kind {
+    KDR_WHOLE = 1,
+    KDR_INSTANT = 2,
+    KDR_BOOLEAN = 3,
+    KDR_DOUBLE = 4
+};
+
+/* The two numbers of a value; of a double both are 0. */
+enum kdr_value_number {
+    KDR_VALUE_WHOLE = 0,       /* the whole number; */
+    KDR_VALUE_SECONDS = 0,     /* or of an instant, seconds from 1970-01-01T00:00:00Z, */
+    KDR_VALUE_NANOSECONDS = 1, /* and 0 to 999,999,999 nanoseconds on top, before 1970 too; */
+    KDR_VALUE_BOOLEAN = 0,     /* or 1 for yes and 0 for no; what is not named is 0 */
+    KDR_VALUE_NUMBERS = 2
+};
+
+/* The value of an item of 4.0, by the class and type that kdr_join tells, and the joined text. The
+ * answer is what it is, KDR_WHOLE to KDR_DOUBLE. `numbers` gets two numbers, and `real` one double,
+ * which is 0.0 where the value is no double. In class 1 these types have values:
+ *
+ *     10            dateTime  an instant: years 0001 to 9999, a zone (Z, or -14:00 to +14:00), and
+ *                             up to nine digits of a fraction; 24:00:00 is the next midnight
+ *     22            double    an optional sign, and one to fifteen digits, with or without a point
+ *                             among or beside them; -0 is negative zero
+ *     24, 50 to 61  integer and the types made of it: an optional sign and any number of digits,
+ *                             in the type's own range and in that of int64_t
+ *     25            boolean   true, false, 1 or 0
+ *
+ * Refused: 15 for another class, another type, and a text that is not of its type's form (so a
+ * space at either end, a day that the month lacks, a zone beyond 14:00); 16 for a text that is, and
+ * whose value is out of range (so year 0000, negative years and years above 9999), that has no zone
+ * or more digits than named, or that is a double with an exponent, INF or NaN; last 10 where fewer
+ * than two numbers or no double are lent. */
+uint64_t kdr_value(uint8_t item_class, uint8_t item_type, const uint8_t *text, size_t text_len,
+                   int64_t *numbers, size_t numbers_len, double *real, size_t real_len);
+
+/* How instant a lies to instant b, as C's comparison functions say it: -1 earlier, 0 the same, 1
+ * later. It goes by the seconds, then by the nanoseconds, and by nothing else: texts with different
+ * zones are compared by when they are. Now is what clock_gettime(CLOCK_REALTIME) gives: its tv_sec
+ * and tv_nsec are an instant's numbers. A call is never refused; nanoseconds above 999,999,999,
+ * which no value has, count as they are. */
+int32_t kdr_compare(int64_t a_seconds, uint32_t a_nanoseconds,
+                    int64_t b_seconds, uint32_t b_nanoseconds);
 
 /* ---- BaseX (basex_c) ---- */
 

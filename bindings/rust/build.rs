@@ -1,10 +1,10 @@
-//! Names the three archives to the linker: they stand where `rt staticlib` puts them.
+//! Names the four archives to the linker: they stand where `rt staticlib` puts them.
 
 use std::env;
 use std::path::{Path, PathBuf};
 use std::process::exit;
 
-const ARCHIVES: [&str; 3] = ["sedna_c", "parts_c", "basex_c"];
+const ARCHIVES: [&str; 4] = ["sedna_c", "parts_c", "value_c", "basex_c"];
 
 fn main() {
     let here = PathBuf::from(env::var_os("CARGO_MANIFEST_DIR").expect("cargo sets it"));

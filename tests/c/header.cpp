@@ -10,5 +10,6 @@ int main()
     bool turn = kdr_turn(session, sizeof session) == KDR_CLIENT;
     unsigned refusal = kdr_refusal(kdr_fresh(session, 1));
     bool text = std::strstr(kdr_refusal_text(refusal), "lent output shorter") != nullptr;
-    return fresh && turn && text ? 0 : 1;
+    bool earlier = kdr_compare(-1, 999999999, 0, 0) == -1;
+    return fresh && turn && text && earlier ? 0 : 1;
 }

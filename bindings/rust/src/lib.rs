@@ -2,12 +2,13 @@
 //! proved.
 //!
 //! The library reads and writes the messages of both protocols, keeps account of where a Sedna
-//! session stands, and cuts and joins long statements and items. It allocates nothing and copies
-//! nothing that it reads from Sedna; what it writes or decodes goes into a slice that the caller
-//! lends. It keeps nothing between calls: a session and an assembly are plain data, and every type
-//! here is `Send` and `Sync`. Document 01 is the paper that says what it has to do, and what its
-//! fourteen refusals mean. A refused call has read and written nothing: session, output and buffer
-//! are as they were, but for the mark of an overfull [`sedna::Assembly`].
+//! session stands, cuts and joins long statements and items, and reads an item's typed value. It
+//! allocates nothing and copies nothing that it reads from Sedna; what it writes or decodes goes
+//! into a slice that the caller lends. It keeps nothing between calls: a session and an assembly
+//! are plain data, and every type here is `Send` and `Sync`. Document 01 is the paper that says
+//! what it has to do, and what the refusals up to 14 mean; typed values, with 15 and 16, are
+//! request 1 of document 02. A refused call has read and written nothing: session, output and
+//! buffer are as they were, but for the mark of an overfull [`sedna::Assembly`].
 //!
 //! ```
 //! use keddorimp::sedna::{read, Body, Instruction, Session, Side};

@@ -4,12 +4,13 @@
 //! to look only at the slices that it is lent, to store only into those lent to be changed, and to
 //! return. So a call is sound where each pointer and length are those of one slice that is borrowed
 //! for the call, and what is changed is borrowed alone; Rust's references see to both. The
-//! declarations follow `crates/sedna_c`, `crates/parts_c` and `crates/basex_c`, parameter by
-//! parameter.
+//! declarations follow `crates/sedna_c`, `crates/parts_c`, `crates/value_c` and `crates/basex_c`,
+//! parameter by parameter.
 
 pub mod basex;
 pub mod parts;
 pub mod sedna;
+pub mod value;
 
 use crate::refusal::Refusal;
 

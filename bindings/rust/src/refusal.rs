@@ -1,4 +1,4 @@
-//! Document 01's refusal numbers.
+//! The refusal numbers of document 01, and those that document 02 adds.
 
 use crate::shown::pad;
 use core::error::Error;
@@ -15,7 +15,7 @@ macro_rules! refusals {
         /// use keddorimp::Refusal;
         ///
         /// assert_eq!(Refusal::numbered(10), Some(Refusal::NoRoom));
-        /// assert_eq!(Refusal::numbered(15), None);
+        /// assert_eq!(Refusal::numbered(17), None);
         /// let words = "refused with 14: no such part of a cut";
         /// assert_eq!(Refusal::NoSuchPart.to_string(), words);
         /// ```
@@ -46,10 +46,10 @@ macro_rules! refusals {
         }
 
         impl Refusal {
-            /// All that document 01 lists, by number.
+            /// All that the documents list, by number.
             pub const ALL: &'static [Self] = &[$(Self::$name),*];
 
-            /// Document 01's number.
+            /// The documents' number.
             pub const fn number(self) -> u8 {
                 match self {
                     $(Self::$name => $number,)*
@@ -57,7 +57,7 @@ macro_rules! refusals {
                 }
             }
 
-            /// The refusal with this number; none for a number that document 01 does not list.
+            /// The refusal with this number; none for a number that the documents do not list.
             pub const fn numbered(number: u8) -> Option<Self> {
                 match number {
                     $($number => Some(Self::$name),)*
@@ -65,7 +65,7 @@ macro_rules! refusals {
                 }
             }
 
-            /// Document 01's words, "given when".
+            /// The documents' words, "given when".
             pub const fn meaning(self) -> &'static str {
                 match self {
                     $(Self::$name => $meaning,)*
@@ -92,6 +92,10 @@ refusals! {
     12 BufferOverrun "item or statement longer than its gathering buffer";
     13 BadEscape "FF followed by a byte other than 00 or FF";
     14 NoSuchPart "no such part of a cut";
+    15 NotOfForm "another class, a type not named, or text not of its form";
+    16 OutOfRange
+        "value out of range, a missing zone, more digits than named, or a double with an exponent, \
+         INF or NaN";
 }
 
 impl Refusal {
@@ -123,7 +127,7 @@ mod tests {
         for refusal in Refusal::ALL {
             assert_eq!(Refusal::told(refusal.number().into()), *refusal);
         }
-        for number in [0, 15, 255] {
+        for number in [0, 17, 255] {
             assert_eq!(Refusal::told(number.into()), Refusal::Unlisted(number));
             assert_eq!(Refusal::Unlisted(number).number(), number);
         }

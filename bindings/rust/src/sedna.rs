@@ -1,9 +1,9 @@
-//! Sedna's messages, sessions, and the cutting and joining of statements and items.
+//! Sedna's messages, sessions, the cutting and joining of statements and items, and items' values.
 //!
 //! [`read`] tells what the message at the front of some bytes is, and the writers put one into a
 //! lent output. A [`Session`] takes message after message and refuses what no conversation goes on
 //! with. A [`Cut`] writes a statement or an item of any length as messages, and an [`Assembly`]
-//! joins them again.
+//! joins them again. [`value`] is what an item of version 4.0 means by its type.
 //!
 //! # Writing
 //!
@@ -32,6 +32,7 @@ mod instruction;
 mod message;
 mod options;
 mod session;
+mod value;
 mod write;
 
 pub use assembly::{Assembly, Gathering, Joined};
@@ -40,6 +41,7 @@ pub use instruction::Instruction;
 pub use message::{read, Body, Message};
 pub use options::{Options, Setting, Settings};
 pub use session::Session;
+pub use value::{value, Instant, Value};
 pub use write::{
     write_coded, write_empty, write_item, write_options, write_session, write_statement, write_text,
 };

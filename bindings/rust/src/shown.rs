@@ -12,6 +12,18 @@ struct Line {
     len: usize,
 }
 
+impl Line {
+    fn of(words: fmt::Arguments<'_>) -> Result<Self, fmt::Error> {
+        let mut line = Self { bytes: [0; ROOM], len: 0 };
+        line.write_fmt(words)?;
+        Ok(line)
+    }
+
+    fn text(&self) -> Result<&str, fmt::Error> {
+        str::from_utf8(&self.bytes[..self.len]).map_err(|_| fmt::Error)
+    }
+}
+
 impl Write for Line {
     fn write_str(&mut self, words: &str) -> fmt::Result {
         let free = self.bytes[self.len..].get_mut(..words.len()).ok_or(fmt::Error)?;
@@ -23,7 +35,14 @@ impl Write for Line {
 
 /// Shows them as one text: `write!` would give the width to none of them.
 pub fn pad(f: &mut fmt::Formatter<'_>, words: fmt::Arguments<'_>) -> fmt::Result {
-    let mut line = Line { bytes: [0; ROOM], len: 0 };
-    line.write_fmt(words)?;
-    f.pad(str::from_utf8(&line.bytes[..line.len]).map_err(|_| fmt::Error)?)
+    f.pad(Line::of(words)?.text()?)
+}
+
+/// Shows digits as a number is shown, with its sign, and whole whatever the precision.
+pub fn pad_number(
+    f: &mut fmt::Formatter<'_>,
+    non_negative: bool,
+    digits: fmt::Arguments<'_>,
+) -> fmt::Result {
+    f.pad_integral(non_negative, "", Line::of(digits)?.text()?)
 }

@@ -21,9 +21,9 @@ fn refused(instruction: Instruction, length: u32, body: &[u8]) -> u8 {
 
 #[test]
 fn numbers_and_meanings() {
-    assert!(Refusal::ALL.iter().map(|refusal| refusal.number()).eq(1..=14));
+    assert!(Refusal::ALL.iter().map(|refusal| refusal.number()).eq(1..=16));
     let listed = |&number: &u8| Refusal::numbered(number).is_some();
-    assert!((0..=255).filter(listed).eq(1..=14));
+    assert!((0..=255).filter(listed).eq(1..=16));
     for &refusal in Refusal::ALL {
         assert_eq!(Refusal::numbered(refusal.number()), Some(refusal));
     }

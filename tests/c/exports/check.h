@@ -16,6 +16,8 @@ struct lent {
     uint8_t session[KDR_SESSION_BYTES + 6];
     uint64_t numbers[KDR_FIELDS + 2];
     uint64_t assembly[KDR_ASSEMBLY_FIELDS + 2];
+    int64_t value[KDR_VALUE_NUMBERS + 2];
+    double real[2];
 };
 extern struct lent lent;
 
@@ -99,6 +101,7 @@ void check_messages(void);
 void check_sessions(void);
 void check_cutting(void);
 void check_joining(void);
+void check_values(void);
 void check_basex_strings(void);
 void check_basex_requests(void);
 void check_basex_responses(void);

@@ -127,7 +127,12 @@ static const char *const WORDS[] = {
     "item or statement longer than its gathering buffer",
     "FF followed by a byte other than 00 or FF",
     "no such part of a cut",
+    /* document 02 */
+    "another class, a type not named, or text not of its form",
+    "value out of range, a missing zone, more digits than named, or a double with an exponent, "
+    "INF or NaN",
 };
+enum { REFUSALS = sizeof WORDS / sizeof *WORDS };
 
 /* The refusals' numbers, and the answer convention at its edges. */
 static void check_answers(void)
@@ -137,22 +142,23 @@ static void check_answers(void)
     CHECK(KDR_BYTES_LEFT_OVER == 7 && KDR_VALUE_NOT_ALLOWED == 8 && KDR_OUT_OF_ORDER == 9);
     CHECK(KDR_NO_ROOM == 10 && KDR_NO_ENCODING == 11 && KDR_BUFFER_OVERRUN == 12);
     CHECK(KDR_BAD_ESCAPE == 13 && KDR_NO_SUCH_PART == 14);
+    CHECK(KDR_NOT_OF_FORM == 15 && KDR_OUT_OF_RANGE == 16 && REFUSALS == 16);
     CHECK(!kdr_refused(0) && !kdr_refused(KDR_REFUSED - 1));
     CHECK(kdr_refusal(0) == 0 && kdr_refusal(KDR_REFUSED - 1) == 0);
     CHECK(kdr_refused(KDR_REFUSED + KDR_MORE_BYTES));
     CHECK(kdr_refusal(KDR_REFUSED + KDR_MORE_BYTES) == 1);
-    CHECK(kdr_refusal(KDR_REFUSED + KDR_NO_SUCH_PART) == 14);
+    CHECK(kdr_refusal(KDR_REFUSED + KDR_OUT_OF_RANGE) == 16);
 }
 
-/* Document 01's words, and the version as numbers and as a text. */
+/* The documents' words, and the version as numbers and as a text. */
 static void check_words(void)
 {
     char version[16];
-    for (unsigned number = 1; number <= 14; number++) {
+    for (unsigned number = 1; number <= REFUSALS; number++) {
         CHECK(strcmp(kdr_refusal_text(number), WORDS[number - 1]) == 0);
     }
     CHECK(strcmp(kdr_refusal_text(0), "there is no such refusal") == 0);
-    CHECK(strcmp(kdr_refusal_text(15), "there is no such refusal") == 0);
+    CHECK(strcmp(kdr_refusal_text(REFUSALS + 1), "there is no such refusal") == 0);
     CHECK(strcmp(kdr_refusal_text(UINT_MAX), "there is no such refusal") == 0);
     snprintf(version, sizeof version, "%d.%d.%d", KDR_VERSION_MAJOR, KDR_VERSION_MINOR,
              KDR_VERSION_PATCH);
@@ -174,6 +180,7 @@ int main(int argc, char **argv)
     check_sessions();
     check_cutting();
     check_joining();
+    check_values();
     check_basex_strings();
     check_basex_requests();
     check_basex_responses();

@@ -57,6 +57,9 @@ CALL(kdr_write_typed_item_part, BYTES(0), 1, 0, BYTES(1), 0)
 CALL(kdr_write_typed_item_url_part, BYTES(0), 1, 0, BYTES(1), BYTES(2), 0)
 CALL(kdr_open, NUMBERS(0), KDR_ITEM)
 CALL(kdr_join, NUMBERS(0), BYTES(1), KDR_SERVER, BYTES(2), NUMBERS(3))
+CALL(kdr_value, 1, 10, BYTES(0), (int64_t *)s[1].memory, s[1].elements, (double *)s[2].memory,
+     s[2].elements)
+CALL(kdr_compare, 1, 1, 1, 0)
 CALL(kdr_basex_string_len, BYTES(0))
 CALL(kdr_basex_write_string, BYTES(0), 3, BYTES(1))
 CALL(kdr_basex_string_at, BYTES(0), 1, NUMBERS(1))
@@ -120,6 +123,8 @@ static const struct row ROWS[] = {
     ROW(kdr_open, 0, TELL(7)),
     ROW(kdr_join, 14, HOLDS(ASSEMBLY, LESS(10)), {1, 1, NULL, LESS(12)}, HOLDS(PART, LESS(1)),
         TELL(4)),
+    ROW(kdr_value, KDR_INSTANT, LETTERS("1970-01-01T00:00:00Z", LESS(16)), TELL(2), TELL(1)),
+    ALONE(kdr_compare, 1),
     ROW(kdr_basex_string_len, 4, LETTERS("a\xFF", 2)),
     ROW(kdr_basex_write_string, 4, OUT(7), LETTERS("a\xFF", 2)),
     ROW(kdr_basex_string_at, 4, HOLDS(STRING, LESS(1)), TELL(1)),

@@ -1,6 +1,6 @@
 //! Joining the parts of statements and items.
 
-use super::Side;
+use super::{value, Side, Value};
 use crate::raw::parts::{self as raw, Record};
 use crate::refusal::Refusal;
 use core::fmt;
@@ -173,6 +173,33 @@ impl Assembly {
 }
 
 impl<'b> Joined<'b> {
+    /// What a whole item of version 4.0 means by its type, as [`value`](super::value()) reads it,
+    /// and refused as there. `None` for what is none: a part, a statement, and an item up to 3.0,
+    /// which has no type.
+    ///
+    /// ```
+    /// use keddorimp::sedna::{Assembly, Gathering, Side, Value};
+    ///
+    /// let (mut assembly, mut buffer) = (Assembly::new(), [0; 100]);
+    /// let start = [0, 0, 1, 99, 0, 0, 0, 9, 1, 24, 0, 0, 0, 0, 0, 1, b'4'];
+    /// let part = [0, 0, 1, 104, 0, 0, 0, 6, 0, 0, 0, 0, 1, b'2'];
+    /// let end = [0, 0, 1, 114, 0, 0, 0, 0];
+    /// assembly.open(Gathering::TypedItem);
+    /// let mut value = None;
+    /// for message in [&start[..], &part, &end] {
+    ///     let (joined, _) = assembly.join(&mut buffer, Side::Server, message)?;
+    ///     value = joined.value()?;
+    /// }
+    /// assert_eq!(value, Some(Value::Whole(42)));
+    /// # Ok::<(), keddorimp::Refusal>(())
+    /// ```
+    pub fn value(&self) -> Result<Option<Value>, Refusal> {
+        match *self {
+            Self::TypedItem { class, kind, text } => value(class, kind, text).map(Some),
+            Self::Part | Self::Statement { .. } | Self::Item { .. } => Ok(None),
+        }
+    }
+
     /// What the four numbers tell.
     fn told(buffer: &'b [u8], [what, len, a, b]: [usize; 4]) -> Self {
         let text = &buffer[..len];

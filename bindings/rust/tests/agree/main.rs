@@ -1,6 +1,6 @@
 //! More than a million valid and damaged inputs, given to the crate and to plain Rust: every answer
 //! and every byte of lent memory has to be the same. The plain side is that of `bench/`, and so are
-//! Sedna's inputs; BaseX's are here. The inputs are the same in every run.
+//! Sedna's inputs, typed values among them; BaseX's are here. The inputs are the same in every run.
 
 mod cutting;
 mod encoded;
@@ -16,6 +16,7 @@ mod streaming;
 mod strings;
 mod tally;
 mod texts;
+mod values;
 mod writing;
 
 use std::collections::BTreeSet;
@@ -26,12 +27,13 @@ const LEAST: usize = 1_000_000;
 
 fn main() {
     let start = Instant::now();
-    let parts: [fn() -> Tally; 12] = [
+    let parts: [fn() -> Tally; 13] = [
         reading::run,
         writing::run,
         stepping::run,
         cutting::run,
         joining::run,
+        values::run,
         strings::run,
         requests::read,
         requests::write,
@@ -51,5 +53,5 @@ fn main() {
     }
     println!("agree: {total} inputs, all alike, {:.1} s", start.elapsed().as_secs_f32());
     assert!(total >= LEAST, "fewer than a million inputs");
-    assert!(refusals.into_iter().eq(1..=14), "a refusal was never met");
+    assert!(refusals.into_iter().eq(1..=16), "a refusal was never met");
 }
