@@ -5,6 +5,8 @@ use Prim.Native.Nat.{ℕ, _+_, _*_, _-_}
 use lib.Dec.{eqb, ltb}
 use lib.ListN.{length}
 use Rattle.wire.specs.Bytes.{if, between}
+use Rattle.lines.specs.declared.parse.Byte.{Byte}
+use Rattle.lines.specs.declared.parse.Byte.the-variants as byte
 use Rattle.lines.specs.declared.parse.Number.{Number}
 use Rattle.lines.specs.declared.parse.Number.the-variants as number
 
@@ -29,3 +31,12 @@ inInt n = if (ltb 4294967295 n) number.Not (number.Is n)
 -- the number that a text of decimal digits spells, where it has one at least and an int can hold it
 unfoldable pub decimalOf : List ℕ → Number
 decimalOf s = if (eqb (length s) 0) number.Not (if (allDecimal s) (inInt (withDigits 0 s)) number.Not)
+
+-- a number that a byte can hold
+unfoldable pub inByte : Number → Byte
+inByte number.Not = byte.Not
+inByte (number.Is n) = if (ltb 255 n) byte.Not (byte.Is n)
+
+-- the number that a text spells so, where a byte can hold it
+unfoldable pub decimalByteOf : List ℕ → Byte
+decimalByteOf s = inByte (decimalOf s)

@@ -1,7 +1,7 @@
 // Numbers and bytes from text.
 ghost use mathlib.Core.Path.{_≡_};
 ghost use Prim.Native.Nat.{_≤_};
-ghost use Rattle.lines.specs.Numbers.{digitOf, decimalOf};
+ghost use Rattle.lines.specs.Numbers.{digitOf, decimalOf, decimalByteOf};
 ghost use Rattle.lines.specs.Spelling.{pairsAt, lastAt, wordAt, textAt, Spells};
 use crate::cut::behind;
 use crate::cut::front;
@@ -11,6 +11,11 @@ pub const SPACE: usize = 12000;
 
 pub enum Number {
     Is(u32),
+    Not,
+}
+
+pub enum Byte {
+    Is(u8),
     Not,
 }
 
@@ -53,6 +58,21 @@ pub fn decimal(text: &[u8]) -> Number
         i += 1;
     }
     Number::Is(n as u32)
+}
+
+// A decimal number that a byte can hold.
+pub fn decimal_byte(text: &[u8]) -> Byte
+    ensures { λ r. ⌜ r ≡ decimalByteOf (now (text .entry)) ⌝ }
+{
+    match decimal(text) {
+        Number::Not => Byte::Not,
+        Number::Is(n) => {
+            if 255 < n {
+                return Byte::Not;
+            }
+            Byte::Is(n as u8)
+        }
+    }
 }
 
 // Puts the bytes that pairs of digits spell into out, from n on.

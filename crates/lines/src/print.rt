@@ -10,6 +10,20 @@ pub fn decimal(n: u64) {
     io::print_decimal(STDOUT_FILENO, n);
 }
 
+// How far below 0 a number is, the least one too.
+fn below_zero(n: i64) -> u64 {
+    if n < 0 { (-1 - n) as u64 + 1 } else { 0 }
+}
+
+pub fn signed(n: i64) {
+    if n < 0 {
+        say(b"-");
+        decimal(below_zero(n));
+    } else {
+        decimal(n as u64);
+    }
+}
+
 // The last digit of a byte, in capitals as the papers write them.
 fn digit(b: u8) -> u8 {
     let d = b % 16;
@@ -22,6 +36,15 @@ pub fn hex(s: &[u8]) {
         let b = s[i];
         say(&[digit(b / 16), digit(b)]);
         i += 1;
+    }
+}
+
+// All sixteen digits of a number.
+pub fn hex_u64(n: u64) {
+    let mut unit = 1152921504606846976;
+    while unit > 0 {
+        say(&[digit((n / unit % 16) as u8)]);
+        unit /= 16;
     }
 }
 

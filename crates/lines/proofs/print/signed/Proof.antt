@@ -1,0 +1,59 @@
+use borrow.Author.Needs.{needs}
+use mathlib.Core.Path.{sym, subst}
+use mathlib.Core.Bool.{not}
+use native.Mathlib.Nat.{lt-of-le-of-lt}
+use lib.Dec.{T, lit<}
+use lib.IntN.{ℤ, pos}
+use lib.Signed.{_≤ℤ_, ltZ-no, yes-nonNeg, natAbs-le}
+use mir.Syntax.{w64}
+use mir.Val.{SFits, toZ, ofZ}
+use mir.Facts.{toZ-ofZ}
+use Rattle.lines.proofs.print.signed.Statement.{statement}
+use Rattle.lines.proofs.print.signed.Tie as tie
+
+slice-aggregate-say : tie.Need-slice-aggregate-say
+slice-aggregate-say c = search needs
+
+say-requires : tie.Need-say-requires
+say-requires c κs = search needs
+
+below-zero-requires : tie.Need-below-zero-requires
+below-zero-requires c κs = search needs
+
+decimal-requires : tie.Need-decimal-requires
+decimal-requires c κs = search needs
+
+-- n as the machine reads it
+abbrev read : tie.Else1 → ℤ
+read c = toZ w64 (ofZ w64 (c .before .args .n))
+
+not-below : (c : tie.Else1) → pos 0 ≤ℤ read c
+not-below c = ltZ-no (subst (λ b. T (not b)) (sym (c .if1 .left)) tt)
+
+fits : (c : tie.Else1) → SFits w64 (read c)
+fits c = subst (SFits w64) (sym (toZ-ofZ (c .before .fits .n))) (c .before .fits .n)
+
+cast-decimal : tie.Need-cast-decimal
+cast-decimal c = (yes-nonNeg (not-below c), record { fits = lt-of-le-of-lt (natAbs-le (read c) (fits c .sfits)) (lit< tt) })
+
+decimal-requires-2 : tie.Need-decimal-requires-2
+decimal-requires-2 c κs = search needs
+
+returns : tie.Need-returns
+returns c = search needs
+
+returns-2 : tie.Need-returns-2
+returns-2 c = search needs
+
+pub signed-spec : {M : Type 1} → statement M
+signed-spec =
+    tie.close
+    (tie.spec
+    slice-aggregate-say
+    say-requires
+    below-zero-requires
+    decimal-requires
+    cast-decimal
+    decimal-requires-2
+    returns
+    returns-2)
