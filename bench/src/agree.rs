@@ -11,6 +11,7 @@ mod stepping;
 mod strings;
 mod tally;
 mod told;
+mod typed;
 mod writing;
 
 use bench::inputs::{inputs, Input};
@@ -41,6 +42,7 @@ pub fn run() -> Result<Tally, Disagreement> {
     stepping::compare(&mut tally)?;
     cutting::compare(&mut tally)?;
     joining::compare(&mut tally)?;
+    typed::compare(&mut tally)?;
     strings::compare(&mut tally)?;
     requests::compare(&mut tally)?;
     responses::compare(&mut tally)?;

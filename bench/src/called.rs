@@ -3,6 +3,7 @@
 
 pub mod basex;
 pub mod parts;
+pub mod typed;
 
 use crate::library::FIELDS;
 use bench::plain::{self, Body, Message, Pairs, Session, Side, Value};

@@ -12,6 +12,7 @@ mod rng;
 mod sets;
 pub mod strings;
 mod sweep;
+pub mod typed;
 mod valid;
 mod walks;
 mod ways;

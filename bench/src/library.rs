@@ -2,6 +2,7 @@
 
 pub mod basex;
 pub mod parts;
+pub mod typed;
 
 use bench::plain::Value;
 

@@ -1,6 +1,6 @@
-//! Sedna messages, sessions, cutting and joining, and BaseX strings, requests and responses in
-//! plain, safe Rust, written from document 01 and from nothing of the library: the other side of
-//! every comparison.
+//! Sedna messages, sessions, cutting and joining, typed values, and BaseX strings, requests and
+//! responses in plain, safe Rust, written from documents 01 and 02 and from nothing of the library:
+//! the other side of every comparison.
 
 pub mod basex;
 mod cut;
@@ -10,6 +10,7 @@ mod read;
 mod session;
 #[cfg(test)]
 mod tests;
+pub mod typed;
 mod write;
 
 pub use cut::{
@@ -29,7 +30,7 @@ pub const BODY_MAX: usize = 10_240;
 /// Instruction and body length.
 pub const HEAD: usize = 8;
 
-/// Document 01's refusal numbers, as far as they are met here.
+/// The documents' refusal numbers, as far as they are met here.
 pub mod refusal {
     pub const MORE_NEEDED: u8 = 1;
     pub const UNKNOWN: u8 = 2;
@@ -45,6 +46,8 @@ pub mod refusal {
     pub const BUFFER_OVERRUN: u8 = 12;
     pub const BAD_ESCAPE: u8 = 13;
     pub const NO_SUCH_PART: u8 = 14;
+    pub const NOT_OF_FORM: u8 = 15;
+    pub const OUT_OF_RANGE: u8 = 16;
 }
 
 /// The sender of a message, numbered as in a transcript record.

@@ -12,6 +12,7 @@ mod stack;
 mod stepping;
 mod strings;
 mod table;
+mod typed;
 mod writing;
 
 use crate::library::{parts::ASSEMBLY, SESSION};
@@ -72,6 +73,7 @@ fn operations() -> Table {
     rows.push(stepping::row(&day()));
     rows.push(counting::row());
     rows.extend(parts::rows());
+    rows.extend(typed::rows());
     rows.extend(strings::rows());
     rows.extend(requests::rows());
     rows.extend(responses::rows());

@@ -51,6 +51,8 @@ pub struct Tally {
     pub cutting: Count,
     pub joining: Count,
     pub gatherings: usize,
+    pub typed: Count,
+    pub compared: Count,
     pub strings_written: Count,
     pub strings_decoded: Count,
     pub requests_read: Count,
@@ -76,6 +78,9 @@ impl Tally {
             self.cutting.complete(&[0], &[8, 10, 11, 14]),
             // Parts, and the ends of three kinds of gathering.
             self.joining.complete(&[0, 1, 2, 3], &[1, 2, 3, 4, 5, 6, 7, 8, 9, 12]),
+            // Whole numbers, instants, truths and doubles; earlier, the same and later.
+            self.typed.complete(&[1, 2, 3, 4], &[10, 15, 16]),
+            self.compared.complete(&[0, 1, 2], &[]),
             self.strings_written.complete(&[0], &[10]),
             self.strings_decoded.complete(&[0], &[1, 10, 13]),
             self.requests_read.complete(&kinds, &[1, 2, 10, 13]),
@@ -122,6 +127,9 @@ impl fmt::Display for Tally {
         writeln!(f, "agree: {d} parts cut, {e} messages to {} gatherings", self.gatherings)?;
         writeln!(f, "  cutting: {}", self.cutting)?;
         writeln!(f, "  joining: {}", self.joining)?;
+        let [a, b] = [&self.typed, &self.compared].map(Count::calls);
+        writeln!(f, "agree: {a} texts given a value, {b} pairs of instants compared")?;
+        writeln!(f, "  values: {}", self.typed)?;
         self.show_basex(f)
     }
 }

@@ -1,4 +1,4 @@
-//! The worked examples of document 01, and the places of it that are easily got wrong.
+//! The worked examples of the documents, and the places of them that are easily got wrong.
 
 mod cutting;
 mod joining;
@@ -6,6 +6,7 @@ mod reading;
 mod requests;
 mod responses;
 mod strings;
+mod typed;
 mod writing;
 
 use super::Side::{Client, Server};

@@ -4,6 +4,7 @@
 
 use crate::library::basex::{self, REQUEST, RESPONSE};
 use crate::library::parts::{self, ASSEMBLY, TOLD};
+use crate::library::typed;
 use crate::library::{self, FIELDS, SESSION};
 use bench::plain::Value;
 use std::hint::black_box;
@@ -19,7 +20,7 @@ type Use = (&'static str, usize);
 
 /// Every kind of call, on a thread of its own, whose stack is there from the start.
 pub fn uses() -> Vec<Use> {
-    let calls = || [messages(), parts(), strings(), requests(), responses()].concat();
+    let calls = || [messages(), parts(), values(), strings(), requests(), responses()].concat();
     let thread = thread::Builder::new().stack_size(8 * LOOKED_AT).spawn(calls);
     thread.expect("a thread").join().expect("every call is taken")
 }
@@ -65,6 +66,16 @@ fn parts() -> Vec<Use> {
                     && parts::join(&mut assembly, &mut out, 2, &message, &mut told).is_ok()
             }),
         ),
+    ]
+}
+
+fn values() -> Vec<Use> {
+    let (mut numbers, mut real) = ([0; typed::NUMBERS], [0.0; typed::REALS]);
+    let mut value =
+        |kind, text: &[u8]| used(|| typed::value(1, kind, text, &mut numbers, &mut real).is_ok());
+    vec![
+        ("the value of an instant", value(10, b"2024-05-01T09:00:00.123+02:00")),
+        ("the value of a double", value(22, b"-21.0055")),
     ]
 }
 
