@@ -24,7 +24,7 @@ pub record Rounded (n k : ℕ) : Type 0 where
   -- "both exact": as doubles they are n and 10 ^ k themselves
   pub digits-exact : HasValue (ofInt binary64 (pos n)) false n 1
   pub power-exact : HasValue (ofInt binary64 (pos (10 ^ k))) false (10 ^ k) 1
-  -- so that the division alone is rounded: its result is the double nearest to n / 10 ^ k
+  -- so that the division alone is rounded: its result is the fraction n / 10 ^ k, rounded once
   pub once : divided n (10 ^ k) ≡ round binary64 false n (10 ^ k)
   -- and no NaN, whose bits the language leaves open
   pub not-nan : (minus : Bool) → isNan (negated minus (divided n (10 ^ k))) ≡ false

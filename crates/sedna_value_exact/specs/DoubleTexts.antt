@@ -66,7 +66,7 @@ abbrev pub negated : Bool → Float → Float
 negated true x = neg x
 negated false x = x
 
--- "the one rounded division of the digits by the power of ten": the double nearest to the fraction, a tie to the even one
+-- "the one rounded division of the digits by the power of ten": the fraction itself, rounded once, as the language rounds
 abbrev pub meant : Sign → Mantissa → Float
 meant sign d = negated (isMinus sign) (round binary64 false (number (digits d)) (10 ^ places d))
 

@@ -26,7 +26,7 @@ whatOf (Double x) = 4
 abbrev pub flagOf : Bool → ℤ
 flagOf b = if b (pos 1) (pos 0)
 
--- its numbers: the whole number; seconds and nanoseconds; 1 for yes. One that a type does not use is 0.
+-- its numbers: the whole number; seconds and nanoseconds; 1 for yes. One that a value does not use is 0.
 abbrev pub firstOf : Value → ℤ
 firstOf (Whole i) = i
 firstOf (At t) = t .seconds
