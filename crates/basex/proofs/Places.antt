@@ -4,7 +4,7 @@ use mathlib.Core.List.{List}
 use Prim.Native.Nat.{ℕ, suc, _+_, _-_, _≤_}
 use native.Mathlib.Omega.{arith}
 use lib.ListN.{length, drop, length-drop}
-use Rattle.wire.specs.Bytes.{over}
+use Rattle.wire.specs.Bytes.{splice}
 use Rattle.wire.specs.Fields.{Got}
 use Rattle.wire.specs.declared.Refusal.{Refusal}
 use Rattle.basex_string.specs.declared.StringAt.the-variants as string-at
@@ -16,7 +16,7 @@ use Rattle.basex_string.specs.Taking.{Taken, taken, ended}
 use Rattle.basex_string.proofs.Laws.{next-field}
 use Rattle.basex_string.proofs.Taking.{taken-left}
 use Rattle.basex.specs.declared.TwoAt.the-variants.{At, Refused}
-use Rattle.basex.specs.Texts.{texts, twoAt, stored}
+use Rattle.basex.specs.Texts.{texts, twoAt, textsStored}
 
 -- a string was read at `at`: its text, what stands behind it, and where that starts
 pub record Here (b : List ℕ) (at len next : ℕ) : Type 0 where
@@ -83,11 +83,11 @@ module _ (b : List ℕ) (at : ℕ) where
 -- one more text is stored
 pub one-more : (b out : List ℕ) (from to k : ℕ) (r : Ends) → r ≡ ended from (length b - from) to (taken (length out - to) (drop from b))
     → (from ≤ r .next) × (r .next ≤ from + (length b - from))
-    × (stored (suc k) out to (drop from b) ≡ stored k (over out to (taken (length out - to) (drop from b) .text)) (r .to) (drop (r .next) b))
-unfolding stored
+    × (textsStored (suc k) out to (drop from b) ≡ textsStored k (splice out to (taken (length out - to) (drop from b) .text)) (r .to) (drop (r .next) b))
+unfolding textsStored
 one-more b out from to k r e =
     let x : Taken = taken (length out - to) (drop from b) in
     let n : r .next ≡ from + (length b - from - length (x .rest)) = ap (λ (m : Ends). m .next) e in
     let t : r .to ≡ to + length (x .text) = ap (λ (m : Ends). m .to) e in
     let d : drop (r .next) b ≡ x .rest = ap (λ (m : ℕ). drop m b) n ∙ taken-left (length out - to) b from in
-    (omega arith, omega arith, ap (λ (m : ℕ). stored k (over out to (x .text)) m (x .rest)) (sym t) ∙ ap (stored k (over out to (x .text)) (r .to)) (sym d))
+    (omega arith, omega arith, ap (λ (m : ℕ). textsStored k (splice out to (x .text)) m (x .rest)) (sym t) ∙ ap (textsStored k (splice out to (x .text)) (r .to)) (sym d))

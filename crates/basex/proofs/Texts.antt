@@ -5,17 +5,17 @@ use mathlib.Core.Logic.{_⊎_}
 use Prim.Native.Nat.{ℕ, zero, suc, _+_, _-_, _≤_}
 use native.Mathlib.Omega.{arith}
 use lib.ListN.{length, length-append}
-use Rattle.wire.specs.Bytes.{over}
+use Rattle.wire.specs.Bytes.{splice}
 use Rattle.wire.specs.Fields.{Got, goOn, give}
 use Rattle.wire.specs.declared.Refusal.{Refusal}
 use Rattle.wire.specs.declared.Refusal.the-variants.{MoreBytes, BadEscape}
-use Rattle.wire.proofs.Over.{length-over, over-over, over-none}
+use Rattle.wire.proofs.Splices.{length-splice, splice-splice, splice-none}
 use Rattle.basex_string.specs.Scan.{reading}
 use Rattle.basex_string.specs.Strings.{string}
 use Rattle.basex_string.specs.Taking.{Taken}
 use Rattle.basex_string.proofs.Laws.{exact, read-written, refuses}
 use Rattle.basex_string.proofs.Taking.{taken-read}
-use Rattle.basex.specs.Texts.{strings, texts, stored}
+use Rattle.basex.specs.Texts.{strings, texts, textsStored}
 
 -- the texts of strings that were read, behind one that was read first
 abbrev with : List ℕ → Got (List (List ℕ)) → Got (List (List ℕ))
@@ -93,21 +93,21 @@ texts-refuses (suc n) s r e = by (λ (more : List ℕ). texts-refuses n more r) 
 
 -- strings that read well and fit are all stored
 pub texts-stored : (n : ℕ) (out : List ℕ) (to : ℕ) (s : List ℕ) (ts : List (List ℕ)) (rest : List ℕ) → texts n s ≡ Got.got ts rest → to + length (flatten ts) ≤ length out
-    → stored n out to s ≡ record { out = over out to (flatten ts); to = to + length (flatten ts); rest = rest }
-unfolding stored flatten
+    → textsStored n out to s ≡ record { out = splice out to (flatten ts); to = to + length (flatten ts); rest = rest }
+unfolding textsStored flatten
 texts-stored zero out to s ts rest e h =
     let g = read-none s ts rest e in
     let z : to ≡ to + 0 = omega arith in
-    rw (sym (g .0)) (rw (over-none out to, sym z, g .1) refl)
+    rw (sym (g .0)) (rw (splice-none out to, sym z, g .1) refl)
 texts-stored (suc n) out to s ts rest e h =
     let g = read-more n s ts rest e in
     let t = g .first in
     let us = g .others in
     let l : length (flatten ts) ≡ length t + length (flatten us) = ap (λ (m : List (List ℕ)). length (flatten m)) (sym (g .all)) ∙ length-append t (flatten us) in
-    let o = length-over out to t (omega arith) in
-    let i = texts-stored n (over out to t) (to + length t) (g .behind) us rest (g .goes) (omega arith) in
-    let v = over-over out to t (flatten us) (omega arith) in
+    let o = length-splice out to t (omega arith) in
+    let i = texts-stored n (splice out to t) (to + length t) (g .behind) us rest (g .goes) (omega arith) in
+    let v = splice-splice out to t (flatten us) (omega arith) in
     let k : to + length t + length (flatten us) ≡ to + length (flatten ts) = omega arith in
-    let w = v ∙ ap (λ (m : List (List ℕ)). over out to (flatten m)) (g .all) in
-    ap (λ (x : Taken). stored n (over out to (x .text)) (to + length (x .text)) (x .rest)) (taken-read (length out - to) s t (g .behind) (g .got) (omega arith))
-    ∙ i ∙ ap (λ (m : List ℕ). record { out = m; to = to + length t + length (flatten us); rest = rest }) w ∙ ap (λ (m : ℕ). record { out = over out to (flatten ts); to = m; rest = rest }) k
+    let w = v ∙ ap (λ (m : List (List ℕ)). splice out to (flatten m)) (g .all) in
+    ap (λ (x : Taken). textsStored n (splice out to (x .text)) (to + length (x .text)) (x .rest)) (taken-read (length out - to) s t (g .behind) (g .got) (omega arith))
+    ∙ i ∙ ap (λ (m : List ℕ). record { out = m; to = to + length t + length (flatten us); rest = rest }) w ∙ ap (λ (m : ℕ). record { out = splice out to (flatten ts); to = m; rest = rest }) k

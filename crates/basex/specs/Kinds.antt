@@ -5,10 +5,10 @@ use Prim.Native.Nat.{ℕ}
 use lib.Dec.{leb, eqb}
 use Rattle.wire.specs.Bytes.{if, between}
 use Rattle.basex.specs.declared.Reply.{Reply}
-use Rattle.basex.specs.declared.Reply.the-variants.{Command, Stored, Query, Results, Full}
+use Rattle.basex.specs.declared.Reply.the-variants.{Command, Create, Query, Results, Full}
 use Rattle.basex.specs.declared.Kind.{Kind}
 use Rattle.basex.specs.declared.Found.{Found}
-use Rattle.basex.specs.declared.Found.the-variants.{Known, Unknown}
+use Rattle.basex.specs.declared.Columns.{Columns}
 
 -- first byte, number of strings, response; the last is COMMAND
 unfoldable pub kinds : List Kind
@@ -16,7 +16,7 @@ kinds =
     -- QUERY, CLOSE, BIND, RESULTS, EXECUTE, INFO, OPTIONS
     (0x00, 1, Query) ∷ (0x02, 1, Query) ∷ (0x03, 4, Query) ∷ (0x04, 1, Results) ∷ (0x05, 1, Query) ∷ (0x06, 1, Query) ∷ (0x07, 1, Query) ∷
     -- CREATE, ADD, PUT, PUTBINARY
-    (0x08, 2, Stored) ∷ (0x09, 2, Stored) ∷ (0x0C, 2, Stored) ∷ (0x0D, 2, Stored) ∷
+    (0x08, 2, Create) ∷ (0x09, 2, Create) ∷ (0x0C, 2, Create) ∷ (0x0D, 2, Create) ∷
     -- CONTEXT, UPDATING, FULL
     (0x0E, 3, Query) ∷ (0x1E, 1, Query) ∷ (0x1F, 1, Full) ∷
     -- COMMAND, for every first byte from 20 to FE
@@ -32,51 +32,42 @@ rowByte b = if (startsCommand b) 0x20 b
 
 -- the strings and the response of the first kind with the byte
 unfoldable pub search : ℕ → List Kind → Found
-search b [] = Unknown
-search b (k ∷ ks) = if (eqb (k .0) b) (Known (k .1) (k .2)) (search b ks)
+search b [] = Found.Unknown
+search b (k ∷ ks) = if (eqb (k .0) b) (Found.Known (k .1) (k .2)) (search b ks)
 
 -- what the table says of a first byte: "Other first bytes: 2"
 unfoldable pub findOf : ℕ → Found
 findOf b = search (rowByte b) kinds
 
--- whether the request is a COMMAND, whose first byte is text
+-- what a response is made of: whether its request is a COMMAND, how many strings stand ahead of the status, whether an error string stands behind
+-- status 01, whether there are items, whether they are those of FULL
+abbrev pub columnsOf : Reply → Columns
+-- "COMMAND: two strings", of which with status 01 "the last string is the error"
+columnsOf Command = (true, 2, false, false, false)
+-- "CREATE, ADD, PUT, PUTBINARY: one string", which with status 01 is that last string
+columnsOf Create = (false, 1, false, false, false)
+-- "QUERY and the query commands: one string …, then 00, or 01 and an error string"
+columnsOf Query = (false, 1, true, false, false)
+-- "(RESULTS, FULL: items, then 00)" in place of the one string
+columnsOf Results = (false, 0, true, true, false)
+columnsOf Full = (false, 0, true, true, true)
+
+-- whose first byte is text
 abbrev pub isCommand : Reply → Bool
-isCommand Command = true
-isCommand Stored = false
-isCommand Query = false
-isCommand Results = false
-isCommand Full = false
+isCommand reply = columnsOf reply .0
 
--- the strings ahead of the status: "COMMAND: two strings", "CREATE, ADD, PUT, PUTBINARY: one string", "QUERY and the query commands: one string (RESULTS, FULL: items …)"
 abbrev pub ahead : Reply → ℕ
-ahead Command = 2
-ahead Stored = 1
-ahead Query = 1
-ahead Results = 0
-ahead Full = 0
+ahead reply = columnsOf reply .1
 
--- the strings behind the status: "then 00, or 01 and an error string", but with COMMAND and CREATE, ADD, PUT, PUTBINARY "the last string is the error"
+-- one behind 01, none behind 00
 abbrev pub behind : Reply → ℕ → ℕ
-behind Command status = 0
-behind Stored status = 0
-behind Query status = status
-behind Results status = status
-behind Full status = status
+behind reply status = if (columnsOf reply .2) status 0
 
--- "RESULTS, FULL: items, then 00"
 abbrev pub listed : Reply → Bool
-listed Command = false
-listed Stored = false
-listed Query = false
-listed Results = true
-listed Full = true
+listed reply = columnsOf reply .3
 
 abbrev pub isFull : Reply → Bool
-isFull Command = false
-isFull Stored = false
-isFull Query = false
-isFull Results = false
-isFull Full = true
+isFull reply = columnsOf reply .4
 
 -- "a type id (7-15 or 32-83, else 8)"
 unfoldable pub idAllowed : ℕ → Bool

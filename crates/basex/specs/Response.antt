@@ -7,7 +7,6 @@ use lib.Dec.{eqb}
 use lib.ListN.{length, drop}
 use Rattle.wire.specs.Bytes.{if}
 use Rattle.basex.specs.declared.Reply.{Reply}
-use Rattle.basex.specs.declared.Reply.the-variants.{Command, Stored, Query, Results, Full}
 use Rattle.basex.specs.declared.Found.the-variants.{Known}
 use Rattle.basex.specs.Kinds.{findOf, ahead, behind, listed, isFull, idAllowed, itemStrings, statusAllowed}
 use Rattle.basex.specs.Texts.{strings}
@@ -60,13 +59,14 @@ pub record Published (reply : Reply) (r : Response) : Type 0 where
   pub ended : statusAllowed (r .status) ≡ true
   pub last : length (r .error) ≡ behind reply (r .status)
 
--- where the error string is: "with status 01 the last string is the error" (COMMAND: the second; CREATE, ADD, PUT, PUTBINARY: the only one), or the one behind the status ("01 and an error string")
+-- where the error string is: "with status 01 the last string is the error" (COMMAND: the second; CREATE, ADD, PUT, PUTBINARY: the only one), or the one
+-- behind the status ("01 and an error string")
 abbrev pub errorAs : Reply → Response → List (List ℕ)
-errorAs Command r = drop (length (r .texts) - 1) (r .texts)
-errorAs Stored r = drop (length (r .texts) - 1) (r .texts)
-errorAs Query r = r .error
-errorAs Results r = r .error
-errorAs Full r = r .error
+errorAs Reply.Command r = drop (length (r .texts) - 1) (r .texts)
+errorAs Reply.Create r = drop (length (r .texts) - 1) (r .texts)
+errorAs Reply.Query r = r .error
+errorAs Reply.Results r = r .error
+errorAs Reply.Full r = r .error
 
 -- the error string of a response, none but with status 01
 unfoldable pub errorOf : Reply → Response → List (List ℕ)

@@ -4,14 +4,13 @@ use mathlib.Core.List.{List, [], _∷_, _++_, flatten}
 use Prim.Native.Nat.{ℕ, zero, suc, _+_, _-_}
 use lib.Dec.{eqb}
 use lib.ListN.{length, drop, getD}
-use Rattle.wire.specs.Bytes.{over}
+use Rattle.wire.specs.Bytes.{splice}
 use Rattle.wire.specs.Fields.{Got, Field, _>>=_, give}
 use Rattle.basex_string.specs.Strings.{string}
 use Rattle.basex_string.specs.Scan.{reading}
 use Rattle.basex_string.specs.Taking.{Taken, taken}
 use Rattle.basex_string.specs.declared.Ends.{Ends}
 use Rattle.basex.specs.declared.TwoAt.{TwoAt}
-use Rattle.basex.specs.declared.TwoAt.the-variants.{At, Refused}
 
 unfoldable pub strings : List (List ℕ) → List ℕ
 strings [] = []
@@ -35,24 +34,24 @@ unused n ts = eqb (length (flatten (drop n ts))) 0
 
 -- of n bytes from `at` on, up to two strings were read: how long each is, and where what stands behind starts
 abbrev pub twoAt : ℕ → ℕ → Got (List (List ℕ)) → TwoAt
-twoAt at n (Got.refused r) = Refused r
-twoAt at n (Got.got ts rest) = At (lengthAt ts 0) (lengthAt ts 1) (at + (n - length rest))
+twoAt at n (Got.refused r) = TwoAt.Refused r
+twoAt at n (Got.got ts rest) = TwoAt.At (lengthAt ts 0) (lengthAt ts 1) (at + (n - length rest))
 
 -- texts put into an output: what it holds, where it is free again, and what is left to read
-pub record Stored : Type 0 where
+pub record TextsStored : Type 0 where
   pub out : List ℕ
   pub to : ℕ
   pub rest : List ℕ
 
 -- a text that was taken is put from `to` on, and it goes on
-abbrev pub onward : List ℕ → ℕ → Taken → (List ℕ → ℕ → List ℕ → Stored) → Stored
-onward out to t next = next (over out to (t .text)) (to + length (t .text)) (t .rest)
+abbrev pub onward : List ℕ → ℕ → Taken → (List ℕ → ℕ → List ℕ → TextsStored) → TextsStored
+onward out to t next = next (splice out to (t .text)) (to + length (t .text)) (t .rest)
 
 -- the texts of n strings that were judged, one behind the other from `to` on, as far as there is room: nothing is refused
-unfoldable pub stored : ℕ → List ℕ → ℕ → List ℕ → Stored
-stored zero out to s = record { out = out; to = to; rest = s }
-stored (suc n) out to s = onward out to (taken (length out - to) s) (stored n)
+unfoldable pub textsStored : ℕ → List ℕ → ℕ → List ℕ → TextsStored
+textsStored zero out to s = record { out = out; to = to; rest = s }
+textsStored (suc n) out to s = onward out to (taken (length out - to) s) (textsStored n)
 
 -- of n bytes from `at` on, what is left to read starts there
-abbrev pub ends : ℕ → ℕ → Stored → Ends
+abbrev pub ends : ℕ → ℕ → TextsStored → Ends
 ends at n s = record { next = at + (n - length (s .rest)); to = s .to }

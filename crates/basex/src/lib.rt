@@ -3,16 +3,18 @@
 ghost use mathlib.Core.Path.{_≡_};
 ghost use Prim.Native.Nat.{_-_, min};
 ghost use lib.ListN.{length, drop};
-ghost use Rattle.basex.specs.Kinds.{kinds, findOf, rowByte, startsCommand, isCommand, ahead, behind, listed, isFull, idAllowed, itemStrings};
-ghost use Rattle.basex.specs.Texts.{texts, twoAt, stored, ends};
+ghost use Rattle.wire.specs.Call.{Gives};
+ghost use Rattle.basex.specs.Kinds.{kinds, findOf, rowByte, startsCommand, columnsOf, isCommand, ahead, behind};
+ghost use Rattle.basex.specs.Kinds.{listed, isFull, idAllowed, itemStrings};
+ghost use Rattle.basex.specs.Texts.{texts, twoAt, textsStored, ends};
 use basex_string::Ends;
 use basex_string::StringAt;
 use wire::Refusal;
 
-// What the response to a request is made of; specs/Kinds.antt says so.
+// What the response to a request is made of, named by the first request that has it.
 pub enum Reply {
     Command,
-    Stored,
+    Create,
     Query,
     Results,
     Full,
@@ -30,10 +32,10 @@ pub const KINDS: [Kind; 15] = [
     Kind(0x05, 1, Reply::Query),
     Kind(0x06, 1, Reply::Query),
     Kind(0x07, 1, Reply::Query),
-    Kind(0x08, 2, Reply::Stored),
-    Kind(0x09, 2, Reply::Stored),
-    Kind(0x0C, 2, Reply::Stored),
-    Kind(0x0D, 2, Reply::Stored),
+    Kind(0x08, 2, Reply::Create),
+    Kind(0x09, 2, Reply::Create),
+    Kind(0x0C, 2, Reply::Create),
+    Kind(0x0D, 2, Reply::Create),
     Kind(0x0E, 3, Reply::Query),
     Kind(0x1E, 1, Reply::Query),
     Kind(0x1F, 1, Reply::Full),
@@ -85,69 +87,54 @@ pub fn find(first: u8) -> Found
     Found::Unknown
 }
 
-// Whether the request is a COMMAND.
+// Whether the request is a COMMAND, how many strings stand ahead of the status, whether an error string
+// stands behind status 01, whether there are items, whether they have URI strings.
+pub struct Columns(pub bool, pub usize, pub bool, pub bool, pub bool);
+
+fn columns_of(reply: Reply) -> Columns
+    ensures { λ r. ⌜ r ≡ columnsOf reply ⌝ }
+{
+    match reply {
+        Reply::Command => Columns(true, 2, false, false, false),
+        Reply::Create => Columns(false, 1, false, false, false),
+        Reply::Query => Columns(false, 1, true, false, false),
+        Reply::Results => Columns(false, 0, true, true, false),
+        Reply::Full => Columns(false, 0, true, true, true),
+    }
+}
+
 pub fn is_command(reply: Reply) -> bool
     ensures { λ r. ⌜ r ≡ isCommand reply ⌝ }
 {
-    match reply {
-        Reply::Command => true,
-        Reply::Stored => false,
-        Reply::Query => false,
-        Reply::Results => false,
-        Reply::Full => false,
-    }
+    columns_of(reply).0
 }
 
-// How many strings stand ahead of the status.
 pub fn strings_ahead(reply: Reply) -> usize
     ensures { λ r. ⌜ r ≡ ahead reply ⌝ }
 {
-    match reply {
-        Reply::Command => 2,
-        Reply::Stored => 1,
-        Reply::Query => 1,
-        Reply::Results => 0,
-        Reply::Full => 0,
-    }
+    columns_of(reply).1
 }
 
-// How many strings stand behind the status.
 pub fn strings_behind(reply: Reply, status: u8) -> usize
     ensures { λ r. ⌜ r ≡ behind reply status ⌝ }
 {
-    match reply {
-        Reply::Command => 0,
-        Reply::Stored => 0,
-        Reply::Query => status as usize,
-        Reply::Results => status as usize,
-        Reply::Full => status as usize,
+    if columns_of(reply).2 {
+        status as usize
+    } else {
+        0
     }
 }
 
-// Whether the response has items.
 pub fn is_listed(reply: Reply) -> bool
     ensures { λ r. ⌜ r ≡ listed reply ⌝ }
 {
-    match reply {
-        Reply::Command => false,
-        Reply::Stored => false,
-        Reply::Query => false,
-        Reply::Results => true,
-        Reply::Full => true,
-    }
+    columns_of(reply).3
 }
 
-// Whether its items have URI strings.
 pub fn is_full(reply: Reply) -> bool
     ensures { λ r. ⌜ r ≡ isFull reply ⌝ }
 {
-    match reply {
-        Reply::Command => false,
-        Reply::Stored => false,
-        Reply::Query => false,
-        Reply::Results => false,
-        Reply::Full => true,
-    }
+    columns_of(reply).4
 }
 
 pub fn id_allowed(id: u8) -> bool
@@ -228,7 +215,8 @@ pub fn two_at(bytes: &[u8], at: usize, n: usize) -> TwoAt
 // `to` on. Nothing is judged or refused here: the caller has judged the strings, and seen that all of
 // their texts fit.
 pub fn store_judged_texts(bytes: &[u8], at: usize, n: usize, out: &mut [u8], to: usize) -> Ends
-    ensures { λ r. ⌜ (r ≡ ends at (length (now (bytes .entry)) - at) (stored n (now (out .entry)) to (drop at (now (bytes .entry))))) × (now (out .exit) ≡ stored n (now (out .entry)) to (drop at (now (bytes .entry))) .out) ⌝ }
+    ensures { λ r. ⌜ Gives (ends at (length (now (bytes .entry)) - at) (textsStored n (now (out .entry)) to (drop at (now (bytes .entry)))))
+        (textsStored n (now (out .entry)) to (drop at (now (bytes .entry))) .out) r (now (out .exit)) ⌝ }
 {
     let mut from = at;
     let mut end = to;

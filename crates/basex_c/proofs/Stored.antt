@@ -8,21 +8,22 @@ use lib.Dec.{ltb}
 use lib.ListN.{length, take, drop, take-append-drop}
 use lib.Seq.{take-all, drop-length}
 use borrow.Author.Tests.{ltb-true}
-use Rattle.wire.specs.Bytes.{if, placed}
+use Rattle.wire.specs.Bytes.{if}
+use Rattle.wire.specs.Call.{putAt}
 use Rattle.wire.specs.declared.Refusal.{Refusal}
 use Rattle.wire.specs.declared.Refusal.the-variants.{NoRoom}
-use Rattle.wire.proofs.Over.{over-none, placed-fits, placed-not}
-use Rattle.basex_c.specs.Codes.{Outcome, lent, code, toldIn, storedIn}
+use Rattle.wire.proofs.Splices.{splice-none, putAt-fits, putAt-not}
+use Rattle.basex_c.specs.Codes.{Outcome, lent, code, toldIn, storedIn, Tells, Reads}
 
-placed-none : (at : ℕ) (t : List ℕ) → placed [] at t ≡ []
-placed-none zero [] = placed-fits [] 0 [] (omega arith) ∙ over-none [] 0
-placed-none (suc n) [] = placed-not [] (suc n) [] (omega arith)
-placed-none at (x ∷ t) = placed-not [] at (x ∷ t) (omega arith)
+placed-none : (at : ℕ) (t : List ℕ) → putAt [] at t ≡ []
+placed-none zero [] = putAt-fits [] 0 [] (omega arith) ∙ splice-none [] 0
+placed-none (suc n) [] = putAt-not [] (suc n) [] (omega arith)
+placed-none at (x ∷ t) = putAt-not [] at (x ∷ t) (omega arith)
 
 -- what a call is answered by the room of its output, which is judged last, and what is stored there; k numbers are told
 pub data Judged {A : Type 0} (k : ℕ) (tell : A → Outcome) (ask : ℕ → A) (s : List ℕ → List ℕ) : Type 0 where
   never : {r : Refusal} → ((room : ℕ) → tell (ask room) ≡ Outcome.refused r) → ((d : List ℕ) → s d ≡ d) → Judged k tell ask s
-  fits : (none some : A) (size at : ℕ) (t : List ℕ) {n : ℕ} {told : List ℕ} → tell none ≡ Outcome.refused NoRoom → tell some ≡ Outcome.counted n told → length told ≡ k → size ≡ at + length t → ((room : ℕ) → ask room ≡ if (ltb room size) none some) → ((d : List ℕ) → s d ≡ placed d at t) → Judged k tell ask s
+  fits : (none some : A) (size at : ℕ) (t : List ℕ) {n : ℕ} {told : List ℕ} → tell none ≡ Outcome.refused NoRoom → tell some ≡ Outcome.counted n told → length told ≡ k → size ≡ at + length t → ((room : ℕ) → ask room ≡ if (ltb room size) none some) → ((d : List ℕ) → s d ≡ putAt d at t) → Judged k tell ask s
 
 -- so many numbers are lent, and of the output d the part before `room`, which the call makes `part` of
 module _ {A : Type 0} (numbers room : ℕ) (d part : List ℕ) (tell : A → Outcome) (ask : ℕ → A) (s : List ℕ → List ℕ) (p : part ≡ s (take room d)) where
@@ -45,12 +46,13 @@ module _ {A : Type 0} (numbers room : ℕ) (d part : List ℕ) (tell : A → Out
   stored (Judged.fits none some size at t {n} {told} f g l z e same) false w q =
       let all : take room d ≡ d = ap (λ (m : ℕ). take m d) q ∙ take-all (length d) d (omega arith) in
       let rest : drop room d ≡ [] = ap (λ (m : ℕ). drop m d) q ∙ drop-length d in
-      let full : ltb (length d) size ≡ true → s d ≡ d = λ v. same d ∙ placed-not d at t (omega (arith, ltb-true (length d) size v)) in
+      let full : ltb (length d) size ≡ true → s d ≡ d = λ v. same d ∙ putAt-not d at t (omega (arith, ltb-true (length d) size v)) in
       (ap (λ (x : List ℕ). lent numbers (tell (ask (length x)))) all, ap (λ (x : List ℕ). x ++ drop room d) (p ∙ ap s all) ∙ ap (λ (x : List ℕ). s d ++ x) rest ∙ append-nil (s d) ∙ sym (ap (λ (x : A). storedIn d (s d) (lent numbers (tell x))) (e (length d)) ∙ enough none some n told f g (rw l w) (ltb (length d) size) full))
 
 -- what the exports promise, from what the functions that they call do
-pub exported : {A : Type 0} {k room r : ℕ} {part after : List ℕ} {answer : A} {tell : A → Outcome} {ask : ℕ → A} {s : List ℕ → List ℕ} (d t : List ℕ) → Judged k tell ask s → room ≡ if (ltb (length t) k) 0 (length d) → answer ≡ ask (length (take room d)) → part ≡ s (take room d) → (r ≡ code (lent (length t) (tell answer))) × (after ≡ toldIn t (lent (length t) (tell answer))) → (r ≡ code (lent (length t) (tell (ask (length d))))) × (part ++ drop room d ≡ storedIn d (s d) (lent (length t) (tell (ask (length d))))) × (after ≡ toldIn t (lent (length t) (tell (ask (length d)))))
+pub exported : {A : Type 0} {k room r : ℕ} {part after : List ℕ} {answer : A} {tell : A → Outcome} {ask : ℕ → A} {s : List ℕ → List ℕ} (d t : List ℕ) → Judged k tell ask s → room ≡ if (ltb (length t) k) 0 (length d) → answer ≡ ask (length (take room d)) → part ≡ s (take room d)
+    → Tells (lent (length t) (tell answer)) t r after → Reads (lent (length t) (tell (ask (length d)))) d (s d) t r (part ++ drop room d) after
 exported {k = k} {room = room} {part = part} {tell = tell} {ask = ask} {s = s} d t j q a p h =
     let z = stored (length t) room d part tell ask s p j (ltb (length t) k) refl q in
     let o = ap (λ x. lent (length t) (tell x)) a ∙ z .0 in
-    (h .0 ∙ ap code o, z .1, h .1 ∙ ap (toldIn t) o)
+    record { answers = h .answers ∙ ap code o; stores = z .1; tells = h .leaves ∙ ap (toldIn t) o }

@@ -5,66 +5,53 @@ use lib.Dec.{ltb, eqb}
 use lib.ListN.{length, drop, getD}
 use Rattle.wire.specs.Bytes.{if}
 use Rattle.wire.specs.declared.Refusal.the-variants.{MoreBytes, UnknownInstruction, ValueNotAllowed, NoRoom}
-use Rattle.wire.specs.Refusals.{refusalCode}
-use Rattle.basex_string.specs.declared.Spelled.{Spelled}
-use Rattle.basex_string.specs.declared.Spelled.the-variants as spelled
 use Rattle.basex_string.specs.declared.StringAt.{StringAt}
-use Rattle.basex_string.specs.declared.StringAt.the-variants as string-at
 use Rattle.basex_string.specs.Answers.{located, decoded}
 use Rattle.basex_string.specs.Scan as strings
 use Rattle.basex.specs.declared.Found.{Found}
 use Rattle.basex.specs.declared.Found.the-variants.{Known, Unknown}
 use Rattle.basex.specs.Kinds.{findOf, listed, isFull}
 use Rattle.basex_request.specs.declared.Requested.{Requested}
-use Rattle.basex_request.specs.declared.Requested.the-variants as requested-as
 use Rattle.basex_request.specs.Reading.{requested}
 use Rattle.basex_request.specs.Reading as requests
 use Rattle.basex_response.specs.declared.ItemAt.{ItemAt}
-use Rattle.basex_response.specs.declared.ItemAt.the-variants as item-at
 use Rattle.basex_response.specs.declared.Replied.{Replied}
-use Rattle.basex_response.specs.declared.Replied.the-variants as replied
 use Rattle.basex_response.specs.Errors.{errorAt}
 use Rattle.basex_response.specs.Items.{next, itemAt}
 use Rattle.basex_response.specs.Reading.{answered}
 use Rattle.basex_response.specs.Reading as responses
 use Rattle.basex_c.specs.declared.errors.ErrorIn.{ErrorIn}
-use Rattle.basex_c.specs.declared.errors.ErrorIn.the-variants as error-in
 use Rattle.basex_c.specs.Codes.{Outcome, lent}
-
--- the bytes written
-abbrev pub spelledCode : Spelled → ℕ
-spelledCode (spelled.Bytes n) = n
-spelledCode (spelled.Refused r) = refusalCode r
 
 -- the bytes of a string that stands at `at`; told is how long it is, decoded
 abbrev pub stringTold : ℕ → StringAt → Outcome
-stringTold at (string-at.At len behind) = Outcome.counted (behind - at) (len ∷ [])
-stringTold at (string-at.Refused r) = Outcome.refused r
+stringTold at (StringAt.At len behind) = Outcome.counted (behind - at) (len ∷ [])
+stringTold at (StringAt.Refused r) = Outcome.refused r
 
 -- the bytes of a request; told are its kind and how long each of four texts is
 abbrev pub requestTold : Requested → Outcome
-requestTold (requested-as.Read kind a b c d n) = Outcome.counted n (kind ∷ a ∷ b ∷ c ∷ d ∷ [])
-requestTold (requested-as.Refused r) = Outcome.refused r
+requestTold (Requested.Read kind a b c d n) = Outcome.counted n (kind ∷ a ∷ b ∷ c ∷ d ∷ [])
+requestTold (Requested.Refused r) = Outcome.refused r
 
 -- the bytes of a response; told are how long two texts are, the items, how long all their texts are, the status, and how long the error is
 abbrev pub responseTold : Replied → Outcome
-responseTold (replied.Read first second items listed status error n) = Outcome.counted n (first ∷ second ∷ items ∷ listed ∷ status ∷ error ∷ [])
-responseTold (replied.Refused r) = Outcome.refused r
+responseTold (Replied.Read first second items listed status error n) = Outcome.counted n (first ∷ second ∷ items ∷ listed ∷ status ∷ error ∷ [])
+responseTold (Replied.Refused r) = Outcome.refused r
 
 -- the bytes of an item that stands at `at`; told are its id, and how long its URI and its text are. 0 at the 00 behind the last, and nothing is told
 abbrev pub itemTold : ℕ → ItemAt → Outcome
-itemTold at (item-at.Item id uri text behind) = Outcome.counted (behind - at) (id ∷ uri ∷ text ∷ [])
-itemTold at (item-at.End behind) = Outcome.counted 0 []
-itemTold at (item-at.Refused r) = Outcome.refused r
+itemTold at (ItemAt.Item id uri text behind) = Outcome.counted (behind - at) (id ∷ uri ∷ text ∷ [])
+itemTold at (ItemAt.End behind) = Outcome.counted 0 []
+itemTold at (ItemAt.Refused r) = Outcome.refused r
 
 -- the item that stands at `at` in a response: 2 for a kind that is none, 8 for one without items, then its fields
 abbrev pub itemAs : Found → List ℕ → ℕ → ItemAt
-itemAs Unknown s at = item-at.Refused UnknownInstruction
-itemAs (Known n reply) s at = if (listed reply) (itemAt (isFull reply) at (length s - at) (next (isFull reply) (drop at s))) (item-at.Refused ValueNotAllowed)
+itemAs Unknown s at = ItemAt.Refused UnknownInstruction
+itemAs (Known n reply) s at = if (listed reply) (itemAt (isFull reply) at (length s - at) (next (isFull reply) (drop at s))) (ItemAt.Refused ValueNotAllowed)
 
 -- "1 for no byte, 2, then fields": where no byte stands at `at`, 1 whatever the kind
 abbrev pub itemIn : ℕ → List ℕ → ℕ → ItemAt
-itemIn kind s at = if (ltb at (length s)) (itemAs (findOf kind) s at) (item-at.Refused MoreBytes)
+itemIn kind s at = if (ltb at (length s)) (itemAs (findOf kind) s at) (ItemAt.Refused MoreBytes)
 
 -- judging the string at `at`, with so many numbers lent
 abbrev pub judging : List ℕ → ℕ → ℕ → Outcome
@@ -88,20 +75,20 @@ itemRead kind s at numbers = lent numbers (itemTold at (itemIn kind s at))
 
 -- the error of a response: 1 where the request failed, and told are where it starts and how long it is. 0 where it did not, and nothing is told
 abbrev pub errorTold : ErrorIn → Outcome
-errorTold (error-in.At place) = Outcome.counted 1 (place .start ∷ place .len ∷ [])
-errorTold error-in.None = Outcome.counted 0 []
-errorTold (error-in.Refused r) = Outcome.refused r
+errorTold (ErrorIn.At place) = Outcome.counted 1 (place .start ∷ place .len ∷ [])
+errorTold ErrorIn.None = Outcome.counted 0 []
+errorTold (ErrorIn.Refused r) = Outcome.refused r
 
 -- by the six numbers that reading it told: 2 for a kind that is none, 8 for a status above 1
 abbrev pub errorBy : Found → List ℕ → ErrorIn
-errorBy Unknown n = error-in.Refused UnknownInstruction
+errorBy Unknown n = ErrorIn.Refused UnknownInstruction
 errorBy (Known k reply) n =
-    if (ltb 1 (getD n 4 0)) (error-in.Refused ValueNotAllowed)
-    (if (eqb (getD n 4 0) 0) error-in.None (error-in.At (errorAt reply (getD n 0 0) (getD n 1 0) (getD n 3 0) (getD n 5 0))))
+    if (ltb 1 (getD n 4 0)) (ErrorIn.Refused ValueNotAllowed)
+    (if (eqb (getD n 4 0) 0) ErrorIn.None (ErrorIn.At (errorAt reply (getD n 0 0) (getD n 1 0) (getD n 3 0) (getD n 5 0))))
 
 -- 10 ahead of anything where fewer than six are given
 abbrev pub errorIn : ℕ → List ℕ → ErrorIn
-errorIn kind n = if (ltb (length n) 6) (error-in.Refused NoRoom) (errorBy (findOf kind) n)
+errorIn kind n = if (ltb (length n) 6) (ErrorIn.Refused NoRoom) (errorBy (findOf kind) n)
 
 -- telling it, with so many numbers lent
 abbrev pub errorRead : ℕ → List ℕ → ℕ → Outcome

@@ -1,12 +1,12 @@
 // The error of a response.
 ghost use mathlib.Core.Path.{_≡_};
 ghost use lib.ListN.{length};
-ghost use Rattle.basex_c.specs.Codes.{lent, code, toldIn};
+ghost use Rattle.basex_c.specs.Codes.{lent, Tells};
 ghost use Rattle.basex_c.specs.Told.{errorTold, errorIn, errorRead};
+use answer_c::refusal_code;
 use basex::Found;
 use wire::Place;
 use wire::Refusal;
-use wire::refusal_code;
 
 // Where the error stands in the output that the response was read into; none where the request did
 // not fail.
@@ -46,8 +46,7 @@ fn error_in(kind: u8, response: &[u64]) -> ErrorIn
 
 // Two numbers to the front of the lent ones; 0 and none where there is no error.
 fn tell_error(place: &mut [u64], answer: ErrorIn) -> u64
-    ensures { λ r. ⌜ (r ≡ code (lent (length (now (place .entry))) (errorTold answer)))
-        × (now (place .exit) ≡ toldIn (now (place .entry)) (lent (length (now (place .entry))) (errorTold answer))) ⌝ }
+    ensures { λ r. ⌜ Tells (lent (length (now (place .entry))) (errorTold answer)) (now (place .entry)) r (now (place .exit)) ⌝ }
 {
     match answer {
         ErrorIn::Refused(r) => refusal_code(r),
@@ -67,8 +66,7 @@ fn tell_error(place: &mut [u64], answer: ErrorIn) -> u64
 // where the request failed, and told are where its error starts in the output and how long it is.
 #[no_mangle]
 pub extern "C" fn kdr_basex_error(kind: u8, response: &[u64], place: &mut [u64]) -> u64
-    ensures { λ r. ⌜ (r ≡ code (errorRead kind (now (response .entry)) (length (now (place .entry)))))
-        × (now (place .exit) ≡ toldIn (now (place .entry)) (errorRead kind (now (response .entry)) (length (now (place .entry))))) ⌝ }
+    ensures { λ r. ⌜ Tells (errorRead kind (now (response .entry)) (length (now (place .entry)))) (now (place .entry)) r (now (place .exit)) ⌝ }
 {
     tell_error(place, error_in(kind, response))
 }

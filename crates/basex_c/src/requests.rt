@@ -1,20 +1,21 @@
 // Requests.
-ghost use mathlib.Core.List.{[], _∷_};
-ghost use mathlib.Core.Path.{_≡_};
 ghost use lib.ListN.{length};
-ghost use Rattle.basex_request.specs.Reading.{reading, left};
-ghost use Rattle.basex_request.specs.Writing.{written, left as written-left};
-ghost use Rattle.basex_c.specs.Codes.{lent, code, toldIn, storedIn};
-ghost use Rattle.basex_c.specs.Told.{spelledCode, requestTold, requestRead};
-use crate::strings::spelled_code;
+ghost use Rattle.basex_string.specs.Answers.{outputRead};
+ghost use Rattle.basex_request.specs.Calls.{four};
+ghost use Rattle.basex_request.specs.Reading.{reading, textBytes};
+ghost use Rattle.basex_request.specs.Writing.{written, bytesOf};
+ghost use Rattle.basex_c.specs.Codes.{lent, Tells, Reads};
+ghost use Rattle.answer_c.specs.Codes.{WritesByCode};
+ghost use Rattle.basex_c.specs.Told.{requestTold, requestRead};
 use crate::strings::usable;
+use answer_c::counted_code;
+use answer_c::refusal_code;
 use basex_request::Requested;
 use wire::Refusal;
-use wire::refusal_code;
 
 // Five numbers to the front of the lent ones.
 fn tell(told: &mut [u64], answer: Requested) -> u64
-    ensures { λ r. ⌜ (r ≡ code (lent (length (now (told .entry))) (requestTold answer))) × (now (told .exit) ≡ toldIn (now (told .entry)) (lent (length (now (told .entry))) (requestTold answer))) ⌝ }
+    ensures { λ r. ⌜ Tells (lent (length (now (told .entry))) (requestTold answer)) (now (told .entry)) r (now (told .exit)) ⌝ }
 {
     match answer {
         Requested::Refused(r) => refusal_code(r),
@@ -43,7 +44,9 @@ fn tell(told: &mut [u64], answer: Requested) -> u64
 // kind and how long each of four texts is.
 #[no_mangle]
 pub extern "C" fn kdr_basex_read_request(bytes: &[u8], out: &mut [u8], told: &mut [u64]) -> u64
-    ensures { λ r. ⌜ (r ≡ code (requestRead (now (bytes .entry)) (length (now (out .entry))) (length (now (told .entry))))) × (now (out .exit) ≡ storedIn (now (out .entry)) (left (now (out .entry)) (reading (now (bytes .entry)))) (requestRead (now (bytes .entry)) (length (now (out .entry))) (length (now (told .entry))))) × (now (told .exit) ≡ toldIn (now (told .entry)) (requestRead (now (bytes .entry)) (length (now (out .entry))) (length (now (told .entry))))) ⌝ }
+    ensures { λ r. ⌜ Reads (requestRead (now (bytes .entry)) (length (now (out .entry))) (length (now (told .entry))))
+        (now (out .entry)) (outputRead textBytes (now (out .entry)) 0 (reading (now (bytes .entry)))) (now (told .entry))
+        r (now (out .exit)) (now (told .exit)) ⌝ }
 {
     let room = usable(out.len(), 5, told.len());
     tell(told, basex_request::read_request(bytes, &mut out[..room]))
@@ -59,7 +62,10 @@ pub extern "C" fn kdr_basex_write_request(
     third: &[u8],
     fourth: &[u8],
 ) -> u64
-    ensures { λ r. ⌜ (r ≡ spelledCode (written (length (now (out .entry))) kind (now (first .entry) ∷ now (second .entry) ∷ now (third .entry) ∷ now (fourth .entry) ∷ []))) × (now (out .exit) ≡ written-left (now (out .entry)) kind (now (first .entry) ∷ now (second .entry) ∷ now (third .entry) ∷ now (fourth .entry) ∷ []) (written (length (now (out .entry))) kind (now (first .entry) ∷ now (second .entry) ∷ now (third .entry) ∷ now (fourth .entry) ∷ []))) ⌝ }
+    ensures { λ r. ⌜ WritesByCode
+        (written (length (now (out .entry))) kind (four (now (first .entry)) (now (second .entry)) (now (third .entry)) (now (fourth .entry))))
+        (now (out .entry)) 0
+        (bytesOf kind (four (now (first .entry)) (now (second .entry)) (now (third .entry)) (now (fourth .entry)))) r (now (out .exit)) ⌝ }
 {
-    spelled_code(basex_request::write_request(out, kind, first, second, third, fourth))
+    counted_code(basex_request::write_request(out, kind, first, second, third, fourth))
 }

@@ -1,24 +1,26 @@
 // Responses.
 ghost use mathlib.Core.Path.{_≡_};
 ghost use lib.ListN.{length};
+ghost use Rattle.basex_string.specs.Answers.{outputRead};
 ghost use Rattle.basex.specs.Kinds.{findOf};
 ghost use Rattle.basex.specs.Response.{itemBytes};
-ghost use Rattle.basex_response.specs.Reading.{reading, left};
-ghost use Rattle.basex_response.specs.Writing.{itemWritten, itemOf, fullOf, endWritten, endBytes, leftAt};
-ghost use Rattle.basex_c.specs.Codes.{lent, code, toldIn, storedIn};
-ghost use Rattle.basex_c.specs.Told.{spelledCode, responseTold, responseRead, itemTold, itemIn, itemRead};
+ghost use Rattle.basex_response.specs.Reading.{reading, textBytes};
+ghost use Rattle.basex_response.specs.Writing.{itemWritten, itemOf, fullOf, endWritten, endBytes};
+ghost use Rattle.basex_c.specs.Codes.{lent, Tells, Reads};
+ghost use Rattle.answer_c.specs.Codes.{WritesByCode};
+ghost use Rattle.basex_c.specs.Told.{responseTold, responseRead, itemTold, itemIn, itemRead};
 use crate::strings::span;
-use crate::strings::spelled_code;
 use crate::strings::usable;
+use answer_c::counted_code;
+use answer_c::refusal_code;
 use basex::Found;
 use basex_response::ItemAt;
 use basex_response::Replied;
 use wire::Refusal;
-use wire::refusal_code;
 
 // Six numbers to the front of the lent ones.
 fn tell(told: &mut [u64], answer: Replied) -> u64
-    ensures { λ r. ⌜ (r ≡ code (lent (length (now (told .entry))) (responseTold answer))) × (now (told .exit) ≡ toldIn (now (told .entry)) (lent (length (now (told .entry))) (responseTold answer))) ⌝ }
+    ensures { λ r. ⌜ Tells (lent (length (now (told .entry))) (responseTold answer)) (now (told .entry)) r (now (told .exit)) ⌝ }
 {
     match answer {
         Replied::Refused(r) => refusal_code(r),
@@ -55,7 +57,9 @@ pub extern "C" fn kdr_basex_read_response(
     out: &mut [u8],
     told: &mut [u64],
 ) -> u64
-    ensures { λ r. ⌜ (r ≡ code (responseRead kind (now (bytes .entry)) (length (now (out .entry))) (length (now (told .entry))))) × (now (out .exit) ≡ storedIn (now (out .entry)) (left (now (out .entry)) (reading kind (now (bytes .entry)))) (responseRead kind (now (bytes .entry)) (length (now (out .entry))) (length (now (told .entry))))) × (now (told .exit) ≡ toldIn (now (told .entry)) (responseRead kind (now (bytes .entry)) (length (now (out .entry))) (length (now (told .entry))))) ⌝ }
+    ensures { λ r. ⌜ Reads (responseRead kind (now (bytes .entry)) (length (now (out .entry))) (length (now (told .entry))))
+        (now (out .entry)) (outputRead textBytes (now (out .entry)) 0 (reading kind (now (bytes .entry)))) (now (told .entry))
+        r (now (out .exit)) (now (told .exit)) ⌝ }
 {
     let room = usable(out.len(), 6, told.len());
     tell(
@@ -66,7 +70,7 @@ pub extern "C" fn kdr_basex_read_response(
 
 // Three numbers to the front of the lent ones; 0 and none at the end of the items.
 fn tell_item(told: &mut [u64], at: usize, answer: ItemAt) -> u64
-    ensures { λ r. ⌜ (r ≡ code (lent (length (now (told .entry))) (itemTold at answer))) × (now (told .exit) ≡ toldIn (now (told .entry)) (lent (length (now (told .entry))) (itemTold at answer))) ⌝ }
+    ensures { λ r. ⌜ Tells (lent (length (now (told .entry))) (itemTold at answer)) (now (told .entry)) r (now (told .exit)) ⌝ }
 {
     match answer {
         ItemAt::Refused(r) => refusal_code(r),
@@ -111,7 +115,7 @@ fn item_in(kind: u8, bytes: &[u8], at: usize) -> ItemAt
 // are its id, and how long its URI and its text are.
 #[no_mangle]
 pub extern "C" fn kdr_basex_item(kind: u8, bytes: &[u8], at: usize, told: &mut [u64]) -> u64
-    ensures { λ r. ⌜ (r ≡ code (itemRead kind (now (bytes .entry)) at (length (now (told .entry))))) × (now (told .exit) ≡ toldIn (now (told .entry)) (itemRead kind (now (bytes .entry)) at (length (now (told .entry))))) ⌝ }
+    ensures { λ r. ⌜ Tells (itemRead kind (now (bytes .entry)) at (length (now (told .entry)))) (now (told .entry)) r (now (told .exit)) ⌝ }
 {
     tell_item(told, at, item_in(kind, bytes, at))
 }
@@ -126,9 +130,10 @@ pub extern "C" fn kdr_basex_write_item(
     uri: &[u8],
     text: &[u8],
 ) -> u64
-    ensures { λ r. ⌜ (r ≡ spelledCode (itemWritten (length (now (out .entry))) at kind id (now (uri .entry)) (now (text .entry)))) × (now (out .exit) ≡ leftAt (now (out .entry)) at (itemBytes (itemOf (fullOf (findOf kind)) id (now (uri .entry)) (now (text .entry)))) (itemWritten (length (now (out .entry))) at kind id (now (uri .entry)) (now (text .entry)))) ⌝ }
+    ensures { λ r. ⌜ WritesByCode (itemWritten (length (now (out .entry))) at kind id (now (uri .entry)) (now (text .entry)))
+        (now (out .entry)) at (itemBytes (itemOf (fullOf (findOf kind)) id (now (uri .entry)) (now (text .entry)))) r (now (out .exit)) ⌝ }
 {
-    spelled_code(basex_response::write_item(out, at, kind, id, uri, text))
+    counted_code(basex_response::write_item(out, at, kind, id, uri, text))
 }
 
 // All of a response but its items, behind them from `at` on.
@@ -142,7 +147,9 @@ pub extern "C" fn kdr_basex_write_end(
     status: u8,
     error: &[u8],
 ) -> u64
-    ensures { λ r. ⌜ (r ≡ spelledCode (endWritten (length (now (out .entry))) at kind (now (first .entry)) (now (second .entry)) status (now (error .entry)))) × (now (out .exit) ≡ leftAt (now (out .entry)) at (endBytes (findOf kind) (now (first .entry)) (now (second .entry)) status (now (error .entry))) (endWritten (length (now (out .entry))) at kind (now (first .entry)) (now (second .entry)) status (now (error .entry)))) ⌝ }
+    ensures { λ r. ⌜ WritesByCode
+        (endWritten (length (now (out .entry))) at kind (now (first .entry)) (now (second .entry)) status (now (error .entry)))
+        (now (out .entry)) at (endBytes (findOf kind) (now (first .entry)) (now (second .entry)) status (now (error .entry))) r (now (out .exit)) ⌝ }
 {
-    spelled_code(basex_response::write_end(out, at, kind, first, second, status, error))
+    counted_code(basex_response::write_end(out, at, kind, first, second, status, error))
 }

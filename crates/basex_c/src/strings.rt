@@ -3,16 +3,18 @@ ghost use mathlib.Core.Path.{_≡_};
 ghost use Prim.Native.Nat.{_-_, _≤_};
 ghost use lib.Dec.{ltb};
 ghost use lib.ListN.{length, drop};
-ghost use Rattle.wire.specs.Bytes.{if, placed};
-ghost use Rattle.basex_string.specs.Answers.{spelling, left};
+ghost use Rattle.wire.specs.Bytes.{if};
+ghost use Rattle.wire.specs.Call.{inRoom};
+ghost use Rattle.basex_string.specs.Answers.{outputRead};
 ghost use Rattle.basex_string.specs.Scan.{reading};
 ghost use Rattle.basex_string.specs.Strings.{string};
-ghost use Rattle.basex_c.specs.Codes.{lent, code, toldIn, storedIn};
-ghost use Rattle.basex_c.specs.Told.{spelledCode, stringTold, judging, decoding};
-use basex_string::Spelled;
+ghost use Rattle.basex_c.specs.Codes.{lent, Tells, Reads};
+ghost use Rattle.answer_c.specs.Codes.{WritesByCode};
+ghost use Rattle.basex_c.specs.Told.{stringTold, judging, decoding};
+use answer_c::counted_code;
+use answer_c::refusal_code;
 use basex_string::StringAt;
 use wire::Refusal;
-use wire::refusal_code;
 
 // How many bytes the text takes as a string.
 #[no_mangle]
@@ -22,21 +24,13 @@ pub extern "C" fn kdr_basex_string_len(text: &[u8]) -> u64
     basex_string::string_len(text) as u64
 }
 
-pub(crate) fn spelled_code(w: Spelled) -> u64
-    ensures { λ r. ⌜ r ≡ spelledCode w ⌝ }
-{
-    match w {
-        Spelled::Bytes(n) => n as u64,
-        Spelled::Refused(r) => refusal_code(r),
-    }
-}
-
 // The text as a string, from `at` on.
 #[no_mangle]
 pub extern "C" fn kdr_basex_write_string(out: &mut [u8], at: usize, text: &[u8]) -> u64
-    ensures { λ r. ⌜ (r ≡ spelledCode (spelling (length (now (out .entry))) at (now (text .entry)))) × (now (out .exit) ≡ placed (now (out .entry)) at (string (now (text .entry)))) ⌝ }
+    ensures { λ r. ⌜ WritesByCode (inRoom (length (now (out .entry))) at (length (string (now (text .entry)))))
+        (now (out .entry)) at (string (now (text .entry))) r (now (out .exit)) ⌝ }
 {
-    spelled_code(basex_string::write_string(out, at, text))
+    counted_code(basex_string::write_string(out, at, text))
 }
 
 // How many bytes stand from `at` up to the place behind them; no reader answers one ahead of `at`.
@@ -56,7 +50,7 @@ pub(crate) fn usable(out: usize, told: usize, lent: usize) -> usize
 
 // One number to the front of the lent ones.
 fn tell(told: &mut [u64], at: usize, place: StringAt) -> u64
-    ensures { λ r. ⌜ (r ≡ code (lent (length (now (told .entry))) (stringTold at place))) × (now (told .exit) ≡ toldIn (now (told .entry)) (lent (length (now (told .entry))) (stringTold at place))) ⌝ }
+    ensures { λ r. ⌜ Tells (lent (length (now (told .entry))) (stringTold at place)) (now (told .entry)) r (now (told .exit)) ⌝ }
 {
     match place {
         StringAt::Refused(r) => refusal_code(r),
@@ -73,7 +67,7 @@ fn tell(told: &mut [u64], at: usize, place: StringAt) -> u64
 // The string that starts at `at`, judged; told is how many bytes it has, decoded.
 #[no_mangle]
 pub extern "C" fn kdr_basex_string_at(bytes: &[u8], at: usize, told: &mut [u64]) -> u64
-    ensures { λ r. ⌜ (r ≡ code (judging (now (bytes .entry)) at (length (now (told .entry))))) × (now (told .exit) ≡ toldIn (now (told .entry)) (judging (now (bytes .entry)) at (length (now (told .entry))))) ⌝ }
+    ensures { λ r. ⌜ Tells (judging (now (bytes .entry)) at (length (now (told .entry)))) (now (told .entry)) r (now (told .exit)) ⌝ }
 {
     tell(told, at, basex_string::string_at(bytes, at))
 }
@@ -87,7 +81,9 @@ pub extern "C" fn kdr_basex_decode(
     to: usize,
     told: &mut [u64],
 ) -> u64
-    ensures { λ r. ⌜ (r ≡ code (decoding (now (bytes .entry)) at (length (now (out .entry))) to (length (now (told .entry))))) × (now (out .exit) ≡ storedIn (now (out .entry)) (left (now (out .entry)) to (reading (drop at (now (bytes .entry))))) (decoding (now (bytes .entry)) at (length (now (out .entry))) to (length (now (told .entry))))) × (now (told .exit) ≡ toldIn (now (told .entry)) (decoding (now (bytes .entry)) at (length (now (out .entry))) to (length (now (told .entry))))) ⌝ }
+    ensures { λ r. ⌜ Reads (decoding (now (bytes .entry)) at (length (now (out .entry))) to (length (now (told .entry))))
+        (now (out .entry)) (outputRead (λ s. s) (now (out .entry)) to (reading (drop at (now (bytes .entry))))) (now (told .entry))
+        r (now (out .exit)) (now (told .exit)) ⌝ }
 {
     let room = usable(out.len(), 1, told.len());
     tell(

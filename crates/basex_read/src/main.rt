@@ -9,9 +9,9 @@
 // `end`, or `damaged` at a cut record, one above 65,536 bytes or a read that fails, where it stops.
 ghost use Prim.Native.Nat.{_<_};
 use libc::STDIN_FILENO;
-use lines::print::decimal;
-use lines::print::hex;
-use lines::print::say;
+use text_lines::print::decimal;
+use text_lines::print::hex;
+use text_lines::print::say;
 
 fn wide(b: u8) -> usize
     ensures { λ r. ⌜ r < 256 ⌝ }
@@ -23,7 +23,7 @@ fn line(number: u64, kind: u8, bytes: &[u8], out: &mut [u8]) {
     decimal(number);
     say(b" ");
     hex(&[kind]);
-    basex_show::show(kind, bytes, out);
+    text_basex::show(kind, bytes, out);
     say(b"\n");
 }
 

@@ -18,8 +18,8 @@ use Rattle.basex.specs.Kinds.{findOf, isCommand}
 use Rattle.basex.specs.Request.{Request}
 use Rattle.basex.specs.Texts.{strings, texts, lengthAt, twoAt}
 use Rattle.basex.proofs.Texts.{texts-none, texts-more, texts-refused, texts-exact}
-use Rattle.basex_request.specs.declared.Judged.the-variants.{Well, Refused}
-use Rattle.basex_request.specs.Places.{stringsFrom, judged}
+use Rattle.basex_request.specs.declared.RequestAt.the-variants.{At, Refused}
+use Rattle.basex_request.specs.inner.Places.{stringsFrom, requestAt}
 use Rattle.basex_request.specs.Reading.{fieldsOf, reading}
 use Rattle.basex_request.proofs.Table.{command-one}
 
@@ -93,7 +93,7 @@ module _ (b : List ℕ) (at m : ℕ) where
 
 -- how long each of up to four texts is, told two by two
 lengths-joined : (kind from n read : ℕ) (ts us : List (List ℕ)) → length ts ≤ 2 → (length ts < 2 → length us ≡ 0)
-    → Well kind from n (lengthAt ts 0) (lengthAt ts 1) (lengthAt us 0) (lengthAt us 1) read ≡ Well kind from n (lengthAt (ts ++ us) 0) (lengthAt (ts ++ us) 1) (lengthAt (ts ++ us) 2) (lengthAt (ts ++ us) 3) read
+    → At kind from n (lengthAt ts 0) (lengthAt ts 1) (lengthAt us 0) (lengthAt us 1) read ≡ At kind from n (lengthAt (ts ++ us) 0) (lengthAt (ts ++ us) 1) (lengthAt (ts ++ us) 2) (lengthAt (ts ++ us) 3) read
 lengths-joined kind from n read [] [] h k = refl
 lengths-joined kind from n read [] (u ∷ us) h k = let z : length (u ∷ us) ≡ 0 = k (omega arith) in absurd (omega arith)
 lengths-joined kind from n read (t ∷ []) [] h k = refl
@@ -114,7 +114,7 @@ module _ (b : List ℕ) (kind from n : ℕ) (h : n ≤ 4) where
         let q : texts (min (n - 2) 2) (f .rest) ≡ Got.refused r = ap (texts (min (n - 2) 2)) (sym (f .there)) ∙ not-two b next (min (n - 2) 2) r e in
         rw split (rw (f .got) (rw q refl))
 
-    pub strings-well : (third fourth read : ℕ) → Two b next (min (n - 2) 2) third fourth read → Well kind from n first second third fourth read ≡ stringsFrom kind from (length b - from) (texts n (drop from b))
+    pub strings-well : (third fourth read : ℕ) → Two b next (min (n - 2) 2) third fourth read → At kind from n first second third fourth read ≡ stringsFrom kind from (length b - from) (texts n (drop from b))
     strings-well third fourth read g =
         let q : texts (min (n - 2) 2) (f .rest) ≡ Got.got (g .ts) (g .rest) = ap (texts (min (n - 2) 2)) (sym (f .there)) ∙ g .got in
         let c : length (f .ts ++ g .ts) ≡ n = let x = f .count in let y = g .count in length-append (f .ts) (g .ts) ∙ omega arith in
@@ -123,7 +123,7 @@ module _ (b : List ℕ) (kind from n : ℕ) (h : n ≤ 4) where
         let j = lengths-joined kind from n read (f .ts) (g .ts) (let x = f .count in omega arith) (λ k. let x = f .count in let y = g .count in omega arith) in
         rw split (rw (f .got) (rw q (rw (c, sym e, f .one, f .two, g .one, g .two) j)))
 
-pub none-judged : (s : List ℕ) → length s ≡ 0 → Refused MoreBytes ≡ judged (length s) (reading s)
+pub none-judged : (s : List ℕ) → length s ≡ 0 → Refused MoreBytes ≡ requestAt (length s) (reading s)
 unfolding reading
 none-judged [] h = refl
 none-judged (b ∷ s) h = absurd (omega arith)
@@ -145,26 +145,26 @@ module _ (s : List ℕ) (h : length s ≡ 0 → ⊥) where
       by [] h = absurd (h refl)
       by (b ∷ s) h = refl
 
-  pub unknown-judged : findOf (getD s 0 0) ≡ Unknown → Refused UnknownInstruction ≡ judged (length s) (reading s)
+  pub unknown-judged : findOf (getD s 0 0) ≡ Unknown → Refused UnknownInstruction ≡ requestAt (length s) (reading s)
   unknown-judged f = rw front (rw f refl)
 
   module _ (n : ℕ) (reply : Reply) (f : findOf (getD s 0 0) ≡ Known n reply) where
-    pub command-judged : isCommand reply ≡ true → stringsFrom 0x20 0 (length s - 0) (texts n (drop 0 s)) ≡ judged (length s) (reading s)
+    pub command-judged : isCommand reply ≡ true → stringsFrom 0x20 0 (length s - 0) (texts n (drop 0 s)) ≡ requestAt (length s) (reading s)
     command-judged c = rw front (rw f (rw (c, whole, command-one (getD s 0 0) n reply f c) (by (scan.reading s) refl)))
       where
-        by : (x : Got (List ℕ)) → scan.reading s ≡ x → stringsFrom 0x20 0 (length s - 0) (texts 1 s) ≡ judged (length s) (goOn x (λ t. give (Request.command t)))
+        by : (x : Got (List ℕ)) → scan.reading s ≡ x → stringsFrom 0x20 0 (length s - 0) (texts 1 s) ≡ requestAt (length s) (goOn x (λ t. give (Request.command t)))
         by (Got.refused r) p = rw (texts-refused 0 s r p) refl
         by (Got.got t rest) p =
             let e : 0 + (length s - 0 - length rest) ≡ length s - length rest = omega arith in
-            rw (texts-more 0 s t rest p) (rw (texts-none rest) (ap (Well 0x20 0 1 (length t) 0 0 0) e))
+            rw (texts-more 0 s t rest p) (rw (texts-none rest) (ap (At 0x20 0 1 (length t) 0 0 0) e))
 
-    pub coded-judged : isCommand reply ≡ false → stringsFrom (getD s 0 0) 1 (length s - 1) (texts n (drop 1 s)) ≡ judged (length s) (reading s)
+    pub coded-judged : isCommand reply ≡ false → stringsFrom (getD s 0 0) 1 (length s - 1) (texts n (drop 1 s)) ≡ requestAt (length s) (reading s)
     coded-judged c = rw front (rw f (rw c (by (texts n (drop 1 s)) refl)))
       where
-        by : (x : Got (List (List ℕ))) → texts n (drop 1 s) ≡ x → stringsFrom (getD s 0 0) 1 (length s - 1) x ≡ judged (length s) (goOn x (λ ts. give (Request.coded (getD s 0 0) ts)))
+        by : (x : Got (List (List ℕ))) → texts n (drop 1 s) ≡ x → stringsFrom (getD s 0 0) 1 (length s - 1) x ≡ requestAt (length s) (goOn x (λ ts. give (Request.coded (getD s 0 0) ts)))
         by (Got.refused r) p = refl
         by (Got.got ts rest) p =
             let x = texts-exact n (drop 1 s) ts rest p in
             let l = sym (length-drop 1 s) ∙ ap length (x .1) ∙ length-append (strings ts) rest in
             let e : 1 + (length s - 1 - length rest) ≡ length s - length rest = let z = ap length whole in omega arith in
-            ap (Well (getD s 0 0) 1 (length ts) (lengthAt ts 0) (lengthAt ts 1) (lengthAt ts 2) (lengthAt ts 3)) e
+            ap (At (getD s 0 0) 1 (length ts) (lengthAt ts 0) (lengthAt ts 1) (lengthAt ts 2) (lengthAt ts 3)) e

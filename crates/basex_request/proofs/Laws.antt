@@ -7,25 +7,28 @@ use native.Mathlib.Omega.{arith}
 use lib.Dec.{ltb}
 use lib.ListN.{length, take, drop, length-append}
 use lib.Seq.{take-append-seam}
-use borrow.Author.Tests.{le-ltb, ltb-false}
-use Rattle.wire.specs.Bytes.{if, over}
+use borrow.Author.Tests.{ltb-false}
+use Rattle.wire.specs.Bytes.{if, splice}
+use Rattle.wire.specs.Call.{outputAfter}
 use Rattle.wire.specs.Fields.{Got}
 use Rattle.wire.specs.declared.Refusal.the-variants.{NoRoom}
-use Rattle.wire.proofs.Over.{placed-fits}
-use Rattle.basex_string.specs.declared.Spelled.the-variants.{Bytes}
+use Rattle.wire.proofs.Call.{room-there}
+use Rattle.wire.proofs.Splices.{putAt-fits}
+use Rattle.wire.specs.declared.Counted.{Counted}
+use Rattle.wire.specs.declared.Counted.the-variants.{Count}
+use Rattle.basex_string.specs.Answers.{outputRead}
 use Rattle.basex.specs.Request.{Request, encode, Published}
 use Rattle.basex.specs.Texts.{lengthAt}
 use Rattle.basex_request.specs.declared.Requested.the-variants as requested-as
 use Rattle.basex_request.specs.declared.Requested.the-variants.{Read}
-use Rattle.basex_request.specs.Reading as read
-use Rattle.basex_request.specs.Reading.{reading, kindOf, textsOf, requested}
+use Rattle.basex_request.specs.Reading.{reading, kindOf, textsOf, textBytes, requested}
 use Rattle.basex_request.specs.Calls.{padded, cut}
-use Rattle.basex_request.specs.Writing.{written, left}
+use Rattle.basex_request.specs.Writing.{written, bytesOf}
 use Rattle.basex_request.proofs.Parts.{cut-flatten}
 pub use Rattle.basex_request.proofs.Behind.{refused-behind}
 pub use Rattle.basex_request.proofs.Exact.{reading-exact}
 pub use Rattle.basex_request.proofs.Refusals.{InReading, reading-refuses, read-refuses, InWriting, write-refuses}
-pub use Rattle.basex_request.proofs.Written.{published-written, published-left, Wrote, writing-exact, wrote-left}
+pub use Rattle.basex_request.proofs.Written.{published-written, published-bytes, Wrote, writing-exact, wrote-bytes}
 
 -- one encoding for each request, and no request's is the start of another's
 pub one-encoding : (q p : Request) (r t : List ℕ) → Published q → Published p → encode q ++ r ≡ encode p ++ t → (q ≡ p) × (r ≡ t)
@@ -45,34 +48,33 @@ bytes-read s q rest e =
 pub behind : (s : List ℕ) (q : Request) (rest other : List ℕ) → reading s ≡ Got.got q rest → reading (take (length s - length rest) s ++ other) ≡ Got.got q other
 behind s q rest other e = reading-exact _ q other .1 (reading-exact s q rest .0 e .0, ap (λ (l : List ℕ). l ++ other) (bytes-read s q rest e .1))
 
-over-front : (out x : List ℕ) → over out 0 x ≡ x ++ drop (length x) out
-unfolding over
+over-front : (out x : List ℕ) → splice out 0 x ≡ x ++ drop (length x) out
+unfolding splice
 over-front out x = let z : 0 + length x ≡ length x = omega arith in rw z refl
 
 -- a request that was written into an output with room
 module _ (q : Request) (p : Published q) (out : List ℕ) (room : length (encode q) ≤ length out) where
-  fits-written : written (length out) (kindOf q) (padded (textsOf q)) ≡ Bytes (length (encode q))
-  fits-written = published-written q p (length out) ∙ rw (le-ltb (length out) (length (encode q)) room) refl
+  fits-written : written (length out) (kindOf q) (padded (textsOf q)) ≡ Count (length (encode q))
+  fits-written = published-written q p (length out) ∙ room-there (length out) 0 (length (encode q)) (omega arith)
 
-  fits-left : left out (kindOf q) (padded (textsOf q)) (written (length out) (kindOf q) (padded (textsOf q))) ≡ over out 0 (encode q)
+  fits-left : outputAfter (written (length out) (kindOf q) (padded (textsOf q))) out 0 (bytesOf (kindOf q) (padded (textsOf q))) ≡ splice out 0 (encode q)
   fits-left =
-      let z : 0 + length (encode q) ≤ length out = omega arith in
-      ap (left out (kindOf q) (padded (textsOf q))) fits-written ∙ published-left q p out (length (encode q)) ∙ placed-fits out 0 (encode q) z
+      ap (λ (c : Counted). outputAfter c out 0 (bytesOf (kindOf q) (padded (textsOf q)))) fits-written ∙ ap (splice out 0) (published-bytes q p)
 
   -- it reads back as it was
-  pub read-written : (written (length out) (kindOf q) (padded (textsOf q)) ≡ Bytes (length (encode q)))
-      × (reading (left out (kindOf q) (padded (textsOf q)) (written (length out) (kindOf q) (padded (textsOf q)))) ≡ Got.got q (drop (length (encode q)) out))
+  pub read-written : (written (length out) (kindOf q) (padded (textsOf q)) ≡ Count (length (encode q)))
+      × (reading (outputAfter (written (length out) (kindOf q) (padded (textsOf q))) out 0 (bytesOf (kindOf q) (padded (textsOf q)))) ≡ Got.got q (drop (length (encode q)) out))
   read-written = (fits-written, reading-exact _ q _ .1 (p, fits-left ∙ over-front out (encode q)))
 
 -- what was read is written as the same bytes
 pub write-read : (s : List ℕ) (q : Request) (rest : List ℕ) → reading s ≡ Got.got q rest → (out : List ℕ) → length s - length rest ≤ length out
-    → (written (length out) (kindOf q) (padded (textsOf q)) ≡ Bytes (length s - length rest))
-    × (left out (kindOf q) (padded (textsOf q)) (written (length out) (kindOf q) (padded (textsOf q))) ≡ over out 0 (take (length s - length rest) s))
+    → (written (length out) (kindOf q) (padded (textsOf q)) ≡ Count (length s - length rest))
+    × (outputAfter (written (length out) (kindOf q) (padded (textsOf q))) out 0 (bytesOf (kindOf q) (padded (textsOf q))) ≡ splice out 0 (take (length s - length rest) s))
 write-read s q rest e out room =
     let p = reading-exact s q rest .0 e .0 in
     let b = bytes-read s q rest e in
     let h : length (encode q) ≤ length out = let n = b .0 in omega arith in
-    (fits-written q p out h ∙ ap Bytes (sym (b .0)), fits-left q p out h ∙ ap (over out 0) (sym (b .1)))
+    (fits-written q p out h ∙ ap Count (sym (b .0)), fits-left q p out h ∙ ap (splice out 0) (sym (b .1)))
 
 -- a call of reading that accepts: the request that was read, its texts in the output, its bytes
 pub record Accepted (s out : List ℕ) (kind a b c d n : ℕ) : Type 0 where
@@ -81,7 +83,7 @@ pub record Accepted (s out : List ℕ) (kind a b c d n : ℕ) : Type 0 where
   pub got : reading s ≡ Got.got request rest
   pub named : kind ≡ kindOf request
   pub count : n ≡ length s - length rest
-  pub handed : cut (read.left out (reading s)) a b c d ≡ padded (textsOf request)
+  pub handed : cut (outputRead textBytes out 0 (reading s)) a b c d ≡ padded (textsOf request)
 
 pub accepted : (s out : List ℕ) (kind a b c d n : ℕ) → requested (length s) (length out) (reading s) ≡ Read kind a b c d n → Accepted s out kind a b c d n
 accepted s out kind a b c d n e = by (reading s) refl e
@@ -95,7 +97,7 @@ accepted s out kind a b c d n e = by (reading s) refl e
         room false f g =
             let h = ltb-false (length out) (length (flatten (textsOf q))) f in
             let z : 0 + length (flatten (textsOf q)) ≤ length out = omega arith in
-            let l = placed-fits out 0 (flatten (textsOf q)) z ∙ over-front out (flatten (textsOf q)) in
+            let l = putAt-fits out 0 (flatten (textsOf q)) z ∙ over-front out (flatten (textsOf q)) in
             let i : lengthAt (textsOf q) 0 ≡ a = cc in
             let j : lengthAt (textsOf q) 1 ≡ b = cc in
             let k : lengthAt (textsOf q) 2 ≡ c = cc in
@@ -111,10 +113,10 @@ accepted s out kind a b c d n e = by (reading s) refl e
 
 -- what a call of reading handed over is written as the bytes that it read
 pub rewritten : (s out : List ℕ) (kind a b c d n : ℕ) → requested (length s) (length out) (reading s) ≡ Read kind a b c d n → (to : List ℕ) → n ≤ length to
-    → (written (length to) kind (cut (read.left out (reading s)) a b c d) ≡ Bytes n)
-    × (left to kind (cut (read.left out (reading s)) a b c d) (written (length to) kind (cut (read.left out (reading s)) a b c d)) ≡ over to 0 (take n s))
+    → (written (length to) kind (cut (outputRead textBytes out 0 (reading s)) a b c d) ≡ Count n)
+    × (outputAfter (written (length to) kind (cut (outputRead textBytes out 0 (reading s)) a b c d)) to 0 (bytesOf kind (cut (outputRead textBytes out 0 (reading s)) a b c d)) ≡ splice to 0 (take n s))
 rewritten s out kind a b c d n e to h = let x = accepted s out kind a b c d n e in by (x .request) (x .rest) (x .got) _ (x .handed) (x .named) (x .count)
   where
     by : (q : Request) (rest : List ℕ) → reading s ≡ Got.got q rest → (ts : List (List ℕ)) → ts ≡ padded (textsOf q) → kind ≡ kindOf q → n ≡ length s - length rest
-        → (written (length to) kind ts ≡ Bytes n) × (left to kind ts (written (length to) kind ts) ≡ over to 0 (take n s))
+        → (written (length to) kind ts ≡ Count n) × (outputAfter (written (length to) kind ts) to 0 (bytesOf kind ts) ≡ splice to 0 (take n s))
     by q rest g ts t k m = rw (t, k, m) (write-read s q rest g to (omega arith))

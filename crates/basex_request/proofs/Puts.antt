@@ -6,22 +6,25 @@ use Prim.Native.Nat.{ℕ, suc, _+_, _-_, _≤_, _<_}
 use native.Mathlib.Omega.{arith}
 use lib.Dec.{ltb, leb}
 use lib.ListN.{length, getD, take, length-append}
-use borrow.Author.Tests.{lt-ltb, le-ltb, le-leb, lt-leb, leb-true, leb-false, ltb-true}
-use Rattle.wire.specs.Bytes.{if, placed}
+use borrow.Author.Tests.{le-ltb, le-leb, lt-leb, leb-true, leb-false}
+use Rattle.wire.specs.Bytes.{if}
+use Rattle.wire.specs.Call.{inRoom, putAt, Gives, Writes}
 use Rattle.wire.specs.declared.Refusal.{Refusal}
 use Rattle.wire.specs.declared.Refusal.the-variants.{UnknownInstruction, ValueNotAllowed, NoRoom, NoEncoding}
-use Rattle.wire.proofs.Over.{Ahead, start, over-none, placed-fits, placed-not}
+use Rattle.wire.proofs.Call.{room-there, room-short}
+use Rattle.wire.proofs.Splices.{Ahead, start, splice-none, putAt-fits}
+use Rattle.basex_string.proofs.Room.{writes-not, writes-all}
 use Rattle.basex_string.specs.Strings.{string}
-use Rattle.basex_string.specs.Answers.{spelling}
-use Rattle.basex_string.specs.declared.Spelled.{Spelled}
-use Rattle.basex_string.specs.declared.Spelled.the-variants.{Bytes, Refused}
+use Rattle.wire.specs.declared.Counted.{Counted}
+use Rattle.wire.specs.declared.Counted.the-variants.{Count, Refused}
 use Rattle.basex.specs.declared.Found.the-variants.{Known, Unknown}
 use Rattle.basex.specs.declared.Reply.{Reply}
 use Rattle.basex.specs.Kinds.{startsCommand, findOf, isCommand}
 use Rattle.basex.specs.Request.{Request, encode, opens}
 use Rattle.basex.specs.Texts.{strings, unused}
-use Rattle.basex_request.specs.Writing.{firstOf, requestOf, spelled, written, inFront, left}
-use Rattle.basex_request.proofs.Taken.{four, taken-strings}
+use Rattle.basex_request.specs.Writing.{firstOf, requestOf, requestWritten, written, bytesOf}
+use Rattle.basex_request.specs.Calls.{four}
+use Rattle.basex_request.proofs.Taken.{taken-strings}
 
 pub none-opens : (t : List ℕ) → length t ≡ 0 → false ≡ opens t
 none-opens [] h = refl
@@ -33,38 +36,36 @@ first-opens (b ∷ t) h = refl
 
 -- a COMMAND's string, and what is refused with 11
 module _ (out t : List ℕ) where
-  pub command-spelled : (e : List ℕ) → opens t ≡ true → e ≡ placed out 0 (string t) → (spelling (length out) 0 t ≡ spelled (length out) (Request.command t)) × (e ≡ inFront out (encode (Request.command t)) (spelling (length out) 0 t))
+  abbrev WritesCommand : Counted → List ℕ → Type 0
+  WritesCommand = Writes (requestWritten (length out) (Request.command t)) out 0 (encode (Request.command t))
+
+  pub command-put : {r : Counted} {after : List ℕ} → opens t ≡ true → Writes (inRoom (length out) 0 (length (string t))) out 0 (string t) r after → WritesCommand r after
   unfolding encode
-  command-spelled e o p = (rw (o, z) refl, by (ltb (length out) (0 + length (string t))) refl)
-    where
-      z : 0 + length (string t) ≡ length (string t)
-      z = omega arith
+  command-put o w = rw o w
 
-      by : (f : Bool) → ltb (length out) (0 + length (string t)) ≡ f → e ≡ inFront out (string t) (if f (Refused NoRoom) (Bytes (length (string t))))
-      by true q = p ∙ placed-not out 0 (string t) (ltb-true _ _ q)
-      by false q = p
-
-  pub command-not : opens t ≡ false → Refused NoEncoding ≡ spelled (length out) (Request.command t)
-  command-not o = rw o refl
+  pub command-not : opens t ≡ false → WritesCommand (Refused NoEncoding) out
+  command-not o = rw o (record { answers = refl; leaves = refl })
 
 -- the string of a text that is taken, where it fits
 module _ (out : List ℕ) (at : ℕ) (t : List ℕ) where
-  pub taken-put : (taken : Bool) → taken ≡ true → at + length (if taken (string t) []) ≤ length out → (n : ℕ) → spelling (length out) at t ≡ Bytes n → (n ≡ length (if taken (string t) [])) × (string t ≡ if taken (string t) [])
+  pub taken-put : (taken : Bool) → taken ≡ true → at + length (if taken (string t) []) ≤ length out → (n : ℕ) → inRoom (length out) at (length (string t)) ≡ Count n
+      → (n ≡ length (if taken (string t) [])) × (string t ≡ if taken (string t) [])
   taken-put true e h n p =
-      let q : Bytes (length (string t)) ≡ Bytes n = rw (le-ltb (length out) (at + length (string t)) h) at p in
+      let q : Count (length (string t)) ≡ Count n = rw (le-ltb (length out) (at + length (string t)) h) at p in
       ((cc), refl)
   taken-put false e h n p = let z : _≡_ {A = ℕ} 0 1 = cc in absurd (omega arith)
 
-  pub taken-fits : (taken : Bool) → taken ≡ true → at + length (if taken (string t) []) ≤ length out → (r : Refusal) → spelling (length out) at t ≡ Refused r → ⊥
+  pub taken-fits : (taken : Bool) → taken ≡ true → at + length (if taken (string t) []) ≤ length out → (r : Refusal) → inRoom (length out) at (length (string t)) ≡ Refused r → ⊥
   taken-fits true e h r p =
-      let q : Bytes (length (string t)) ≡ Refused r = rw (le-ltb (length out) (at + length (string t)) h) at p in
+      let q : Count (length (string t)) ≡ Refused r = rw (le-ltb (length out) (at + length (string t)) h) at p in
       let z : _≡_ {A = ℕ} 0 1 = cc in
       omega arith
   taken-fits false e h r p = let z : _≡_ {A = ℕ} 0 1 = cc in omega arith
 
-  pub untaken : (taken : Bool) → taken ≡ false → at + length (if taken (string t) []) ≤ length out → (at ≡ at + length (if taken (string t) [])) × (out ≡ placed out at (if taken (string t) []))
+  pub untaken : (taken : Bool) → taken ≡ false → at + length (if taken (string t) []) ≤ length out
+      → Gives (at + length (if taken (string t) [])) (putAt out at (if taken (string t) [])) at out
   untaken true e h = let z : _≡_ {A = ℕ} 0 1 = cc in absurd (omega arith)
-  untaken false e h = ((omega arith), sym (placed-fits out at [] h ∙ over-none out at))
+  untaken false e h = record { answers = omega arith; leaves = sym (putAt-fits out at [] h ∙ splice-none out at) }
 
 pub strings-not : (ts : List (List ℕ)) (n room : ℕ) → room < length (strings (take n ts)) → false ≡ leb (length (strings (take n ts))) room
 strings-not ts n room h = sym (lt-leb (length (strings (take n ts))) room h)
@@ -90,37 +91,47 @@ module _ (a b c d : List ℕ) (kind n : ℕ) where
   unfolding encode
   coded-length = refl
 
-  pub coded-not : (out : List ℕ) → length out < length (encode request) → Refused NoRoom ≡ spelled (length out) request
-  coded-not out h = rw (lt-ltb _ _ h) refl
+  abbrev WritesCoded : List ℕ → Counted → List ℕ → Type 0
+  WritesCoded out = Writes (requestWritten (length out) request) out 0 (encode request)
 
-  pub coded-fits : (out : List ℕ) (k : ℕ) → k ≡ length (encode request) → length (encode request) ≤ length out → Bytes k ≡ spelled (length out) request
-  coded-fits out k e h = rw (le-ltb _ _ h) (ap Bytes e)
+  pub coded-not : (out : List ℕ) → length out < length (encode request) → WritesCoded out (Refused NoRoom) out
+  coded-not out h = writes-not out 0 (encode request) refl (room-short (length out) 0 (length (encode request)) (omega arith))
+
+  pub coded-put : (out : List ℕ) {k : ℕ} {after : List ℕ} → length (encode request) ≤ length out
+      → Gives (length (encode request)) (putAt out 0 (encode request)) k after → WritesCoded out (Count k) after
+  coded-put out h g =
+      let f : 0 + length (encode request) ≤ length out = omega arith in
+      writes-all out 0 (encode request) refl (room-there (length out) 0 (length (encode request)) f ∙ ap Count (sym (g .answers))) (g .leaves ∙ putAt-fits out 0 (encode request) f)
 
   -- nothing was written yet: the first byte is ahead, and the strings that are taken
   pub coded-ahead : (out : List ℕ) → length (encode request) ≤ length out
-      → Ahead (placed out 0 (encode request)) out 0 ((kind ∷ []) ++ (if (ltb 0 n) (string a) [] ++ (if (ltb 1 n) (string b) [] ++ (if (ltb 2 n) (string c) [] ++ if (ltb 3 n) (string d) []))))
+      → Ahead (putAt out 0 (encode request)) out 0 ((kind ∷ []) ++ (if (ltb 0 n) (string a) [] ++ (if (ltb 1 n) (string b) [] ++ (if (ltb 2 n) (string c) [] ++ if (ltb 3 n) (string d) []))))
   unfolding encode
   coded-ahead out h =
       let z : 0 + length (encode request) ≤ length out = omega arith in
       let x : encode request ≡ kind ∷ (if (ltb 0 n) (string a) [] ++ (if (ltb 1 n) (string b) [] ++ (if (ltb 2 n) (string c) [] ++ if (ltb 3 n) (string d) []))) = ap (λ (m : List ℕ). kind ∷ m) (taken-strings a b c d n) in
-      subst (Ahead (placed out 0 (encode request)) out 0) x (subst (λ (m : List ℕ). Ahead m out 0 (encode request)) (sym (placed-fits out 0 (encode request) z)) (start out 0 (encode request) z))
+      subst (Ahead (putAt out 0 (encode request)) out 0) x (subst (λ (m : List ℕ). Ahead m out 0 (encode request)) (sym (putAt-fits out 0 (encode request) z)) (start out 0 (encode request) z))
 
 -- what the table makes of a kind
 module _ (kind : ℕ) (ts : List (List ℕ)) where
-  pub unknown-written : (room : ℕ) → findOf kind ≡ Unknown → Refused UnknownInstruction ≡ written room kind ts
+  -- the contract of writing
+  abbrev WritesRequest : List ℕ → Counted → List ℕ → Type 0
+  WritesRequest out = Writes (written (length out) kind ts) out 0 (bytesOf kind ts)
+
+  pub unknown-written : (out : List ℕ) → findOf kind ≡ Unknown → WritesRequest out (Refused UnknownInstruction) out
   unfolding written
-  unknown-written room f = rw f refl
+  unknown-written out f = rw f (record { answers = refl; leaves = refl })
 
   module _ (n : ℕ) (reply : Reply) (f : findOf kind ≡ Known n reply) where
-    pub unused-written : (room : ℕ) → unused n ts ≡ false → Refused ValueNotAllowed ≡ written room kind ts
+    pub unused-written : (out : List ℕ) → unused n ts ≡ false → WritesRequest out (Refused ValueNotAllowed) out
     unfolding written
-    unused-written room u = rw f (rw u refl)
+    unused-written out u = rw f (rw u (record { answers = refl; leaves = refl }))
 
     -- the request that they are, answered and put
-    pub known-answered : (out o : List ℕ) (q : Request) (answer : Spelled) → unused n ts ≡ true → q ≡ requestOf kind n reply ts → answer ≡ spelled (length out) q → o ≡ inFront out (encode q) answer
-        → (answer ≡ written (length out) kind ts) × (o ≡ left out kind ts answer)
+    pub known-written : (out : List ℕ) (q : Request) {r : Counted} {after : List ℕ} → unused n ts ≡ true → q ≡ requestOf kind n reply ts
+        → Writes (requestWritten (length out) q) out 0 (encode q) r after → WritesRequest out r after
     unfolding written
-    known-answered out o q answer u e p l = (rw f (rw u (rw (sym e) p)), rw f (rw (sym e) l))
+    known-written out q u e w = rw f (rw u (rw (sym e) w))
 
     pub command-request : isCommand reply ≡ true → Request.command (firstOf ts) ≡ requestOf kind n reply ts
     command-request c = rw c refl

@@ -5,20 +5,23 @@ use Prim.Native.Nat.{ℕ, _+_, _-_, _≤_, _<_}
 use native.Mathlib.Omega.{arith}
 use lib.ListN.{length, drop, length-append}
 use borrow.Author.Tests.{lt-ltb, le-ltb}
+use Rattle.wire.specs.Call.{Gives}
 use Rattle.wire.specs.Fields.{Got}
 use Rattle.wire.specs.declared.Refusal.{Refusal}
 use Rattle.wire.specs.declared.Refusal.the-variants.{NoRoom}
-use Rattle.wire.proofs.Over.{placed-fits, placed-not}
+use Rattle.wire.proofs.Splices.{putAt-fits, putAt-not}
+use Rattle.basex_string.specs.Answers.{outputRead}
 use Rattle.basex_string.specs.Strings.{string}
 use Rattle.basex_string.proofs.Laws.{read-written}
 use Rattle.basex_string.proofs.Steps.{string-length}
 use Rattle.basex.specs.Request.{Request, encode, Published}
-use Rattle.basex.specs.Texts.{strings, texts, lengthAt, Stored, stored}
+use Rattle.basex.specs.Texts.{strings, texts, lengthAt, TextsStored, textsStored}
 use Rattle.basex.proofs.Texts.{texts-none, texts-more, texts-written, texts-stored}
-use Rattle.basex_request.specs.declared.Judged.the-variants as judged-as
+use Rattle.basex_request.specs.declared.RequestAt.the-variants as request-at
+use Rattle.basex_request.specs.declared.Requested.{Requested}
 use Rattle.basex_request.specs.declared.Requested.the-variants.{Read, Refused}
-use Rattle.basex_request.specs.Places.{fromOf, judged}
-use Rattle.basex_request.specs.Reading.{reading, kindOf, textsOf, requested, left}
+use Rattle.basex_request.specs.inner.Places.{fromOf, requestAt}
+use Rattle.basex_request.specs.Reading.{reading, kindOf, textsOf, textBytes, requested}
 use Rattle.basex_request.proofs.Exact.{reading-exact}
 use Rattle.basex_request.proofs.Table.{at-most-four}
 
@@ -59,23 +62,23 @@ pub record Whole (s : List ℕ) (kind from n first second third fourth read : �
   pub request : Request
   pub rest : List ℕ
   pub got : reading s ≡ Got.got request rest
-  pub told : judged-as.Well kind from n first second third fourth read ≡ judged (length s) (Got.got request rest)
+  pub told : request-at.At kind from n first second third fourth read ≡ requestAt (length s) (Got.got request rest)
   pub sum : first + second + third + fourth ≡ length (flatten (textsOf request))
   pub short : first + second + third + fourth ≤ length s
   pub stands : texts n (drop from s) ≡ Got.got (textsOf request) rest
 
 module _ (s : List ℕ) where
-  pub not-whole : (r : Refusal) → judged-as.Refused r ≡ judged (length s) (reading s) → reading s ≡ Got.refused r
+  pub not-whole : (r : Refusal) → request-at.Refused r ≡ requestAt (length s) (reading s) → reading s ≡ Got.refused r
   not-whole r e = by (reading s) e
     where
-      by : (x : Got Request) → judged-as.Refused r ≡ judged (length s) x → x ≡ Got.refused r
+      by : (x : Got Request) → request-at.Refused r ≡ requestAt (length s) x → x ≡ Got.refused r
       by (Got.refused q) p = let z : q ≡ r = cc in ap Got.refused z
       by (Got.got q rest) p = let z : _≡_ {A = ℕ} 0 1 = cc in absurd (omega arith)
 
-  pub whole : (kind from n first second third fourth read : ℕ) → judged-as.Well kind from n first second third fourth read ≡ judged (length s) (reading s) → Whole s kind from n first second third fourth read
+  pub whole : (kind from n first second third fourth read : ℕ) → request-at.At kind from n first second third fourth read ≡ requestAt (length s) (reading s) → Whole s kind from n first second third fourth read
   whole kind from n first second third fourth read e = by (reading s) refl e
     where
-      by : (x : Got Request) → reading s ≡ x → judged-as.Well kind from n first second third fourth read ≡ judged (length s) x → Whole s kind from n first second third fourth read
+      by : (x : Got Request) → reading s ≡ x → request-at.At kind from n first second third fourth read ≡ requestAt (length s) x → Whole s kind from n first second third fourth read
       by (Got.refused r) p g = let z : _≡_ {A = ℕ} 0 1 = cc in absurd (omega arith)
       by (Got.got q rest) p g =
           let x = reading-exact s q rest .0 p in
@@ -99,14 +102,18 @@ module _ (s : List ℕ) where
           }
 
 module _ (s out : List ℕ) (kind from n first second third fourth read : ℕ) (w : Whole s kind from n first second third fourth read) where
-  pub whole-not : length out < first + second + third + fourth → (Refused NoRoom ≡ requested (length s) (length out) (reading s)) × (out ≡ left out (reading s))
+  -- a contract of reading
+  abbrev Reads : Requested → List ℕ → Type 0
+  Reads = Gives (requested (length s) (length out) (reading s)) (outputRead textBytes out 0 (reading s))
+
+  pub whole-not : length out < first + second + third + fourth → Reads (Refused NoRoom) out
   whole-not h =
       let e = w .sum in
       let o : length out < length (flatten (textsOf (w .request))) = omega arith in
       let z : length out < 0 + length (flatten (textsOf (w .request))) = omega arith in
-      (rw (w .got) (rw (lt-ltb _ _ o) refl), rw (w .got) (sym (placed-not out 0 _ z)))
+      record { answers = rw (w .got) (rw (lt-ltb _ _ o) refl); leaves = rw (w .got) (sym (putAt-not out 0 _ z)) }
 
-  pub whole-read : first + second + third + fourth ≤ length out → (Read kind first second third fourth read ≡ requested (length s) (length out) (reading s)) × (stored n out 0 (drop from s) .out ≡ left out (reading s))
+  pub whole-read : first + second + third + fourth ≤ length out → Reads (Read kind first second third fourth read) (textsStored n out 0 (drop from s) .out)
   whole-read h =
       let e = w .sum in
       let t = w .told in
@@ -119,4 +126,7 @@ module _ (s out : List ℕ) (kind from n first second third fourth read : ℕ) (
       let d : fourth ≡ lengthAt (textsOf (w .request)) 3 = cc in
       let r : read ≡ length s - length (w .rest) = cc in
       let u = texts-stored n out 0 (drop from s) (textsOf (w .request)) (w .rest) (w .stands) z in
-      (rw (w .got) (rw (le-ltb _ _ o) (rw (k, a, b, c, d, r) refl)), rw (w .got) (ap (λ (m : Stored). m .out) u ∙ sym (placed-fits out 0 _ z)))
+      record {
+        answers = rw (w .got) (rw (le-ltb _ _ o) (rw (k, a, b, c, d, r) refl));
+        leaves = rw (w .got) (ap (λ (m : TextsStored). m .out) u ∙ sym (putAt-fits out 0 _ z));
+      }

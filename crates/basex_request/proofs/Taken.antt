@@ -11,6 +11,7 @@ use borrow.Author.Tests.{lt-ltb, eq-eqb, ne-eqb, eqb-true, eqb-false}
 use Rattle.wire.specs.Bytes.{if}
 use Rattle.basex_string.specs.Strings.{string}
 use Rattle.basex.specs.Texts.{strings, unused, lengthAt}
+use Rattle.basex_request.specs.Calls.{four}
 
 -- texts beyond the first n are no longer than all of those
 pub beyond : (ts : List (List ℕ)) (n k : ℕ) → n ≤ k → lengthAt ts k ≤ length (flatten (drop n ts))
@@ -34,13 +35,10 @@ pub some-unused : (ts : List (List ℕ)) (n k : ℕ) → n ≤ k → (lengthAt t
 some-unused ts n k h e = let b = beyond ts n k h in sym (ne-eqb _ _ (λ (z : length (flatten (drop n ts)) ≡ 0). e (omega arith)))
 
 module _ (a b c d : List ℕ) where
-  abbrev pub four : List (List ℕ)
-  four = a ∷ b ∷ c ∷ d ∷ []
-
-  pub none-unused : (n : ℕ) → (n < 1 → length a ≡ 0) → (n < 2 → length b ≡ 0) → (n < 3 → length c ≡ 0) → (n < 4 → length d ≡ 0) → true ≡ unused n four
-  none-unused n p q r s = sym (eq-eqb _ _ (none-beyond four n by))
+  pub none-unused : (n : ℕ) → (n < 1 → length a ≡ 0) → (n < 2 → length b ≡ 0) → (n < 3 → length c ≡ 0) → (n < 4 → length d ≡ 0) → true ≡ unused n (four a b c d)
+  none-unused n p q r s = sym (eq-eqb _ _ (none-beyond (four a b c d) n by))
     where
-      by : (k : ℕ) → n ≤ k → lengthAt four k ≡ 0
+      by : (k : ℕ) → n ≤ k → lengthAt (four a b c d) k ≡ 0
       by zero h = p (omega arith)
       by (suc zero) h = q (omega arith)
       by (suc (suc zero)) h = r (omega arith)
@@ -48,15 +46,15 @@ module _ (a b c d : List ℕ) where
       by (suc (suc (suc (suc k)))) h = refl
 
   -- all of them stand where none is taken
-  pub first-unused : (n : ℕ) → n < 1 → length b ≡ 0 → length c ≡ 0 → length d ≡ 0 → eqb (length a) 0 ≡ unused n four
+  pub first-unused : (n : ℕ) → n < 1 → length b ≡ 0 → length c ≡ 0 → length d ≡ 0 → eqb (length a) 0 ≡ unused n (four a b c d)
   first-unused n h q r s = by (eqb (length a) 0) refl
     where
-      by : (f : Bool) → eqb (length a) 0 ≡ f → f ≡ unused n four
+      by : (f : Bool) → eqb (length a) 0 ≡ f → f ≡ unused n (four a b c d)
       by true e = none-unused n (λ _. eqb-true (length a) 0 e) (λ _. q) (λ _. r) (λ _. s)
-      by false e = some-unused four n 0 (omega arith) (eqb-false (length a) 0 e)
+      by false e = some-unused (four a b c d) n 0 (omega arith) (eqb-false (length a) 0 e)
 
   -- the strings of those that are taken
-  pub taken-strings : (n : ℕ) → strings (take n four) ≡ if (ltb 0 n) (string a) [] ++ (if (ltb 1 n) (string b) [] ++ (if (ltb 2 n) (string c) [] ++ if (ltb 3 n) (string d) []))
+  pub taken-strings : (n : ℕ) → strings (take n (four a b c d)) ≡ if (ltb 0 n) (string a) [] ++ (if (ltb 1 n) (string b) [] ++ (if (ltb 2 n) (string c) [] ++ if (ltb 3 n) (string d) []))
   unfolding strings
   taken-strings zero = refl
   taken-strings (suc zero) = refl
@@ -66,5 +64,5 @@ module _ (a b c d : List ℕ) where
       rw (lt-ltb 0 (suc (suc (suc (suc n)))) (omega arith), lt-ltb 1 (suc (suc (suc (suc n)))) (omega arith), lt-ltb 2 (suc (suc (suc (suc n)))) (omega arith), lt-ltb 3 (suc (suc (suc (suc n)))) (omega arith))
       (rw (take-nil {A = List ℕ} n, append-nil) refl)
 
-  pub taken-length : (n : ℕ) → length (strings (take n four)) ≡ length (if (ltb 0 n) (string a) []) + (length (if (ltb 1 n) (string b) []) + (length (if (ltb 2 n) (string c) []) + length (if (ltb 3 n) (string d) [])))
+  pub taken-length : (n : ℕ) → length (strings (take n (four a b c d))) ≡ length (if (ltb 0 n) (string a) []) + (length (if (ltb 1 n) (string b) []) + (length (if (ltb 2 n) (string c) []) + length (if (ltb 3 n) (string d) [])))
   taken-length n = ap length (taken-strings n) ∙ simp length-append

@@ -3,15 +3,17 @@ use mathlib.Core.Path.{_≡_, refl, sym, ap, subst, _∙_}
 use mathlib.Core.List.{List, [], _∷_, flatten}
 use mathlib.Core.Bool.{Bool, true, false}
 use mathlib.Core.Logic.{_↔_}
-use Prim.Native.Nat.{ℕ, _≤_}
+use Prim.Native.Nat.{ℕ, _+_, _≤_}
 use native.Mathlib.Omega.{arith}
 use lib.Dec.{ltb}
 use lib.ListN.{length, getD, take, drop, length-take, List·getD-eq-default}
 use lib.Seq.{getD-take, length-take-le}
-use borrow.Author.Tests.{le-ltb, ltb-true, ltb-false, eqb-true}
-use Rattle.wire.specs.Bytes.{if, placed}
-use Rattle.wire.specs.declared.Refusal.the-variants.{ValueNotAllowed, NoRoom, NoEncoding}
-use Rattle.basex_string.specs.declared.Spelled.the-variants.{Bytes, Refused}
+use borrow.Author.Tests.{ltb-true, ltb-false, eqb-true}
+use Rattle.wire.specs.Bytes.{if}
+use Rattle.wire.specs.Call.{inRoom}
+use Rattle.wire.specs.declared.Refusal.the-variants.{ValueNotAllowed, NoEncoding}
+use Rattle.wire.proofs.Call.{room-there, counted-there}
+use Rattle.wire.specs.declared.Counted.the-variants.{Count, Refused}
 use Rattle.basex.specs.declared.Found.{Found}
 use Rattle.basex.specs.declared.Found.the-variants.{Known, Unknown}
 use Rattle.basex.specs.declared.Reply.{Reply}
@@ -20,11 +22,11 @@ use Rattle.basex.specs.Kinds.{startsCommand, rowByte, findOf, isCommand}
 use Rattle.basex.specs.Request.{Request, encode, opens, Published}
 use Rattle.basex.specs.Texts.{unused}
 use Rattle.basex_request.specs.Reading.{kindOf, textsOf}
-use Rattle.basex_request.specs.Writing.{requestOf, encodable, spelled, writtenAs, written, left}
-use Rattle.basex_request.specs.Calls.{padded}
+use Rattle.basex_request.specs.Writing.{requestOf, encodable, requestWritten, writtenAs, written, bytesOf}
+use Rattle.basex_request.specs.Calls.{four, padded}
 use Rattle.basex_request.proofs.Storing.{four-texts}
 use Rattle.basex_request.proofs.Table.{at-most-four, command-one, command-starts, starts-command, coded-row}
-use Rattle.basex_request.proofs.Taken.{four, beyond}
+use Rattle.basex_request.proofs.Taken.{beyond}
 
 -- as many as are given are taken, and they are those
 padded-taken : (ts : List (List ℕ)) → length ts ≤ 4 → (unused (length ts) (padded ts) ≡ true) × (take (length ts) (padded ts) ≡ ts)
@@ -60,12 +62,12 @@ given (Request.coded b ts) p =
     }
 
 -- every published request can be given so: it is written, or refused with 10 alone
-pub published-written : (q : Request) → Published q → (room : ℕ) → written room (kindOf q) (padded (textsOf q)) ≡ if (ltb room (length (encode q))) (Refused NoRoom) (Bytes (length (encode q)))
+pub published-written : (q : Request) → Published q → (room : ℕ) → written room (kindOf q) (padded (textsOf q)) ≡ inRoom room 0 (length (encode q))
 unfolding written
 published-written q p room = let g = given q p in rw (g .found) (rw (g .rest) (rw (g .meant) (rw (g .opens) refl)))
 
-pub published-left : (q : Request) → Published q → (out : List ℕ) (n : ℕ) → left out (kindOf q) (padded (textsOf q)) (Bytes n) ≡ placed out 0 (encode q)
-published-left q p out n = let g = given q p in rw (g .found) (rw (g .meant) refl)
+pub published-bytes : (q : Request) → Published q → bytesOf (kindOf q) (padded (textsOf q)) ≡ encode q
+published-bytes q p = let g = given q p in rw (g .found) (rw (g .meant) refl)
 
 -- every byte from 20 to FE stands for COMMAND
 module _ (kind : ℕ) (ts : List (List ℕ)) where
@@ -77,10 +79,10 @@ module _ (kind : ℕ) (ts : List (List ℕ)) where
       by true e = rw (starts-command kind e, starts-command 0x20 refl) refl
       by false e = refl
 
-  row-left : (out : List ℕ) (n : ℕ) → left out kind ts (Bytes n) ≡ left out (rowByte kind) ts (Bytes n)
-  row-left out n = by (startsCommand kind) refl
+  row-bytes : bytesOf kind ts ≡ bytesOf (rowByte kind) ts
+  row-bytes = by (startsCommand kind) refl
     where
-      by : (f : Bool) → startsCommand kind ≡ f → left out kind ts (Bytes n) ≡ left out (if f 0x20 kind) ts (Bytes n)
+      by : (f : Bool) → startsCommand kind ≡ f → bytesOf kind ts ≡ bytesOf (if f 0x20 kind) ts
       by true e = rw (starts-command kind e, starts-command 0x20 refl) refl
       by false e = refl
 
@@ -101,16 +103,16 @@ taken-or-empty ts n k u = by (ltb k n) refl
         let l = length-take n ts in
         List·getD-eq-default (take n ts) [] (omega arith) ∙ sym (empty (getD ts k []) (omega arith))
 
-spelled-bytes : (room : ℕ) (q : Request) (n : ℕ) → spelled room q ≡ Bytes n → (encodable q ≡ true) × (length (encode q) ≡ n) × (n ≤ room)
-spelled-bytes room q n e = by (encodable q) refl (ltb room (length (encode q))) refl e
+written-size : (room : ℕ) (q : Request) (n : ℕ) → requestWritten room q ≡ Count n → (encodable q ≡ true) × (length (encode q) ≡ n) × (n ≤ room)
+written-size room q n e = by (encodable q) refl e
   where
-    by : (o : Bool) → encodable q ≡ o → (f : Bool) → ltb room (length (encode q)) ≡ f → if o (if f (Refused NoRoom) (Bytes (length (encode q)))) (Refused NoEncoding) ≡ Bytes n → (encodable q ≡ true) × (length (encode q) ≡ n) × (n ≤ room)
-    by true o false f p =
-        let l : length (encode q) ≡ n = cc in
-        let r = ltb-false room (length (encode q)) f in
-        (o, l, omega arith)
-    by true o true f p = let z : _≡_ {A = ℕ} 0 1 = cc in absurd (omega arith)
-    by false o f g p = let z : _≡_ {A = ℕ} 0 1 = cc in absurd (omega arith)
+    by : (o : Bool) → encodable q ≡ o → if o (inRoom room 0 (length (encode q))) (Refused NoEncoding) ≡ Count n → (encodable q ≡ true) × (length (encode q) ≡ n) × (n ≤ room)
+    by true o p =
+        let h = counted-there room 0 (length (encode q)) n p in
+        let r = h .1 in
+        let l = h .0 in
+        (o, sym l, omega arith)
+    by false o p = let z : _≡_ {A = ℕ} 0 1 = cc in absurd (omega arith)
 
 -- of a kind and four texts: the request that they are, and its bytes, for which there is room
 abbrev pub Wrote : ℕ → ℕ → List (List ℕ) → ℕ → Type 0
@@ -137,28 +139,28 @@ module _ (room kind : ℕ) (a b c d : List ℕ) (n : ℕ) where
         let t = length-take-le m ts (at-most-four kind m reply found) in
         (Request.coded kind (take m ts), (reply, found ∙ ap (λ (k : ℕ). Known k reply) (sym t), h), coded-row kind m reply found h, others-empty, l, r)
 
-  writing : written room kind ts ≡ Bytes n → Wrote room kind ts n
+  writing : written room kind ts ≡ Count n → Wrote room kind ts n
   unfolding written
   writing e = by (findOf kind) refl e
     where
-      by : (f : Found) → findOf kind ≡ f → writtenAs room kind f (four a b c d) ≡ Bytes n → Wrote room kind (four a b c d) n
+      by : (f : Found) → findOf kind ≡ f → writtenAs room kind f (four a b c d) ≡ Count n → Wrote room kind (four a b c d) n
       by Unknown p e = let z : _≡_ {A = ℕ} 0 1 = cc in absurd (omega arith)
       by (Known m reply) p e = takes (unused m (four a b c d)) refl e
         where
-          takes : (f : Bool) → unused m (four a b c d) ≡ f → if f (spelled room (requestOf kind m reply (four a b c d))) (Refused ValueNotAllowed) ≡ Bytes n → Wrote room kind (four a b c d) n
-          takes true u e = let x = spelled-bytes room (requestOf kind m reply (four a b c d)) n e in wrote m reply p u (isCommand reply) refl (x .0) (x .1) (x .2)
+          takes : (f : Bool) → unused m (four a b c d) ≡ f → if f (requestWritten room (requestOf kind m reply (four a b c d))) (Refused ValueNotAllowed) ≡ Count n → Wrote room kind (four a b c d) n
+          takes true u e = let x = written-size room (requestOf kind m reply (four a b c d)) n e in wrote m reply p u (isCommand reply) refl (x .0) (x .1) (x .2)
           takes false u e = let z : _≡_ {A = ℕ} 0 1 = cc in absurd (omega arith)
 
-  written-so : Wrote room kind ts n → written room kind ts ≡ Bytes n
+  written-so : Wrote room kind ts n → written room kind ts ≡ Count n
   written-so w =
       let p = published-written (w .0) (w .1) room in
-      let h : length (encode (w .0)) ≤ room = let l = w .4 in let r = w .5 in omega arith in
-      row-written kind ts room ∙ ap (λ (k : ℕ). written room k ts) (sym (w .2)) ∙ ap (written room (kindOf (w .0))) (sym (w .3)) ∙ p ∙ rw (le-ltb room (length (encode (w .0))) h) (ap Bytes (w .4))
+      let h : 0 + length (encode (w .0)) ≤ room = let l = w .4 in let r = w .5 in omega arith in
+      row-written kind ts room ∙ ap (λ (k : ℕ). written room k ts) (sym (w .2)) ∙ ap (written room (kindOf (w .0))) (sym (w .3)) ∙ p ∙ room-there room 0 (length (encode (w .0))) h ∙ ap Count (w .4)
 
   -- a kind and four texts are written exactly if they are a published request's, for which there is room
-  pub writing-exact : (written room kind (four a b c d) ≡ Bytes n) ↔ Wrote room kind (four a b c d) n
+  pub writing-exact : (written room kind (four a b c d) ≡ Count n) ↔ Wrote room kind (four a b c d) n
   writing-exact = (writing, written-so)
 
 -- .. and what is written is its encoding
-pub wrote-left : (room kind n : ℕ) (ts : List (List ℕ)) (w : Wrote room kind ts n) (out : List ℕ) → left out kind ts (Bytes n) ≡ placed out 0 (encode (w .0))
-wrote-left room kind n ts w out = row-left kind ts out n ∙ ap (λ (k : ℕ). left out k ts (Bytes n)) (sym (w .2)) ∙ ap (λ (us : List (List ℕ)). left out (kindOf (w .0)) us (Bytes n)) (sym (w .3)) ∙ published-left (w .0) (w .1) out n
+pub wrote-bytes : (room kind n : ℕ) (ts : List (List ℕ)) (w : Wrote room kind ts n) → bytesOf kind ts ≡ encode (w .0)
+wrote-bytes room kind n ts w = row-bytes kind ts ∙ ap (λ (k : ℕ). bytesOf k ts) (sym (w .2)) ∙ ap (bytesOf (kindOf (w .0))) (sym (w .3)) ∙ published-bytes (w .0) (w .1)

@@ -1,4 +1,4 @@
 pub mod Calls
-pub mod Places
 pub mod Reading
 pub mod Writing
+pub mod inner

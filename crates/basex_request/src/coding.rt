@@ -1,20 +1,22 @@
 // Writing a request: what a kind takes, and its strings one behind the other.
-ghost use mathlib.Core.List.{[], _∷_};
+ghost use mathlib.Core.List.{[]};
 ghost use mathlib.Core.Path.{_≡_};
 ghost use Prim.Native.Nat.{_+_, _≤_};
 ghost use lib.Dec.{leb};
 ghost use lib.ListN.{length, take};
-ghost use Rattle.wire.specs.Bytes.{if, placed};
+ghost use Rattle.wire.specs.Bytes.{if};
+ghost use Rattle.wire.specs.Call.{Gives, Writes, putAt};
 ghost use Rattle.basex_string.specs.Strings.{string};
 ghost use Rattle.basex.specs.Request.{Request, encode, opens};
 ghost use Rattle.basex.specs.Texts.{strings, unused};
-ghost use Rattle.basex_request.specs.Writing.{spelled, inFront};
-use basex_string::Spelled;
+ghost use Rattle.basex_request.specs.Calls.{four};
+ghost use Rattle.basex_request.specs.Writing.{requestWritten};
+use wire::Counted;
 use wire::Refusal;
 
 // Whether the texts beyond the first n are empty.
 pub fn takes(n: usize, first: &[u8], second: &[u8], third: &[u8], fourth: &[u8]) -> bool
-    ensures { λ r. ⌜ r ≡ unused n (now (first .entry) ∷ now (second .entry) ∷ now (third .entry) ∷ now (fourth .entry) ∷ []) ⌝ }
+    ensures { λ r. ⌜ r ≡ unused n (four (now (first .entry)) (now (second .entry)) (now (third .entry)) (now (fourth .entry))) ⌝ }
 {
     if 4 <= n {
         return true;
@@ -50,20 +52,21 @@ fn opens_command(text: &[u8]) -> bool
     basex::starts_command(text[0])
 }
 
-pub fn write_command(out: &mut [u8], text: &[u8]) -> Spelled
-    ensures { λ r. ⌜ (r ≡ spelled (length (now (out .entry))) (Request.command (now (text .entry)))) × (now (out .exit) ≡ inFront (now (out .entry)) (encode (Request.command (now (text .entry)))) r) ⌝ }
+pub fn write_command(out: &mut [u8], text: &[u8]) -> Counted
+    ensures { λ r. ⌜ Writes (requestWritten (length (now (out .entry))) (Request.command (now (text .entry))))
+        (now (out .entry)) 0 (encode (Request.command (now (text .entry)))) r (now (out .exit)) ⌝ }
 {
     if opens_command(text) {
         return basex_string::write_string(out, 0, text);
     }
-    Spelled::Refused(Refusal::NoEncoding)
+    Counted::Refused(Refusal::NoEncoding)
 }
 
-// How many bytes the string of a text that is taken has.
-fn size(taken: bool, text: &[u8]) -> usize
-    ensures { λ r. ⌜ r ≡ length (if taken (string (now (text .entry))) []) ⌝ }
+// How many bytes the string of a text has where it is present.
+fn size(present: bool, text: &[u8]) -> usize
+    ensures { λ r. ⌜ r ≡ length (if present (string (now (text .entry))) []) ⌝ }
 {
-    if taken {
+    if present {
         basex_string::string_len(text)
     } else {
         0
@@ -79,7 +82,8 @@ fn strings_fit(
     third: &[u8],
     fourth: &[u8],
 ) -> bool
-    ensures { λ r. ⌜ r ≡ leb (length (strings (take n (now (first .entry) ∷ now (second .entry) ∷ now (third .entry) ∷ now (fourth .entry) ∷ [])))) room ⌝ }
+    ensures { λ r. ⌜ r ≡
+        leb (length (strings (take n (four (now (first .entry)) (now (second .entry)) (now (third .entry)) (now (fourth .entry)))))) room ⌝ }
 {
     let a = size(0 < n, first);
     let b = size(1 < n, second);
@@ -97,15 +101,16 @@ fn strings_fit(
     d <= room - a - b - c
 }
 
-// The string of a text that is taken, from `at` on; where the output is free again.
-fn put_taken(out: &mut [u8], at: usize, taken: bool, text: &[u8]) -> usize
-    requires { ⌜ at + length (if taken (string (now text)) []) ≤ length (now out) ⌝ }
-    ensures { λ r. ⌜ (r ≡ at + length (if taken (string (now (text .entry))) [])) × (now (out .exit) ≡ placed (now (out .entry)) at (if taken (string (now (text .entry))) [])) ⌝ }
+// The string of a text that is present, from `at` on; where the output is free again.
+fn put_present(out: &mut [u8], at: usize, present: bool, text: &[u8]) -> usize
+    requires { ⌜ at + length (if present (string (now text)) []) ≤ length (now out) ⌝ }
+    ensures { λ r. ⌜ Gives (at + length (if present (string (now (text .entry))) []))
+        (putAt (now (out .entry)) at (if present (string (now (text .entry))) [])) r (now (out .exit)) ⌝ }
 {
-    if taken {
+    if present {
         return match basex_string::write_string(out, at, text) {
-            Spelled::Bytes(n) => at + n,
-            Spelled::Refused(_) => at,
+            Counted::Count(n) => at + n,
+            Counted::Refused(_) => at,
         };
     }
     at
@@ -121,14 +126,18 @@ fn put_coded(
     third: &[u8],
     fourth: &[u8],
 ) -> usize
-    requires { ⌜ length (encode (Request.coded kind (take n (now first ∷ now second ∷ now third ∷ now fourth ∷ [])))) ≤ length (now out) ⌝ }
-    ensures { λ r. ⌜ (r ≡ length (encode (Request.coded kind (take n (now (first .entry) ∷ now (second .entry) ∷ now (third .entry) ∷ now (fourth .entry) ∷ []))))) × (now (out .exit) ≡ placed (now (out .entry)) 0 (encode (Request.coded kind (take n (now (first .entry) ∷ now (second .entry) ∷ now (third .entry) ∷ now (fourth .entry) ∷ []))))) ⌝ }
+    requires { ⌜ length (encode (Request.coded kind (take n (four (now first) (now second) (now third) (now fourth))))) ≤ length (now out) ⌝ }
+    ensures { λ r. ⌜ Gives
+        (length (encode (Request.coded kind (take n (four (now (first .entry)) (now (second .entry)) (now (third .entry)) (now (fourth .entry)))))))
+        (putAt (now (out .entry)) 0
+        (encode (Request.coded kind (take n (four (now (first .entry)) (now (second .entry)) (now (third .entry)) (now (fourth .entry)))))))
+        r (now (out .exit)) ⌝ }
 {
     wire::put_byte(out, 0, kind);
-    let b = put_taken(out, 1, 0 < n, first);
-    let c = put_taken(out, b, 1 < n, second);
-    let d = put_taken(out, c, 2 < n, third);
-    put_taken(out, d, 3 < n, fourth)
+    let b = put_present(out, 1, 0 < n, first);
+    let c = put_present(out, b, 1 < n, second);
+    let d = put_present(out, c, 2 < n, third);
+    put_present(out, d, 3 < n, fourth)
 }
 
 pub fn write_coded(
@@ -139,15 +148,20 @@ pub fn write_coded(
     second: &[u8],
     third: &[u8],
     fourth: &[u8],
-) -> Spelled
-    ensures { λ r. ⌜ (r ≡ spelled (length (now (out .entry))) (Request.coded kind (take n (now (first .entry) ∷ now (second .entry) ∷ now (third .entry) ∷ now (fourth .entry) ∷ [])))) × (now (out .exit) ≡ inFront (now (out .entry)) (encode (Request.coded kind (take n (now (first .entry) ∷ now (second .entry) ∷ now (third .entry) ∷ now (fourth .entry) ∷ [])))) r) ⌝ }
+) -> Counted
+    ensures { λ r. ⌜ Writes
+        (requestWritten (length (now (out .entry)))
+        (Request.coded kind (take n (four (now (first .entry)) (now (second .entry)) (now (third .entry)) (now (fourth .entry))))))
+        (now (out .entry)) 0
+        (encode (Request.coded kind (take n (four (now (first .entry)) (now (second .entry)) (now (third .entry)) (now (fourth .entry))))))
+        r (now (out .exit)) ⌝ }
 {
     let room = out.len();
     if room == 0 {
-        return Spelled::Refused(Refusal::NoRoom);
+        return Counted::Refused(Refusal::NoRoom);
     }
     if strings_fit(room - 1, n, first, second, third, fourth) {
-        return Spelled::Bytes(put_coded(out, kind, n, first, second, third, fourth));
+        return Counted::Count(put_coded(out, kind, n, first, second, third, fourth));
     }
-    Spelled::Refused(Refusal::NoRoom)
+    Counted::Refused(Refusal::NoRoom)
 }

@@ -1,19 +1,21 @@
 // Reads and writes BaseX requests. All of a request or nothing: on a refusal the output stays as it
 // was.
-ghost use mathlib.Core.List.{[], _∷_};
 ghost use mathlib.Core.Path.{_≡_};
 ghost use Prim.Native.Nat.{_-_, _≤_};
 ghost use lib.ListN.{length, drop};
+ghost use Rattle.wire.specs.Call.{Gives, Writes};
+ghost use Rattle.basex_string.specs.Answers.{outputRead};
 ghost use Rattle.basex.specs.Texts.{texts};
-ghost use Rattle.basex_request.specs.Places.{stringsFrom, judged};
-ghost use Rattle.basex_request.specs.Reading.{reading, requested, left};
-ghost use Rattle.basex_request.specs.Writing.{written, left as written-left};
+ghost use Rattle.basex_request.specs.Calls.{four};
+ghost use Rattle.basex_request.specs.Reading.{reading, textBytes, requested};
+ghost use Rattle.basex_request.specs.Writing.{written, bytesOf};
+ghost use Rattle.basex_request.specs.inner.Places.{stringsFrom, requestAt};
 
 mod coding;
 
 use basex::Found;
 use basex::TwoAt;
-use basex_string::Spelled;
+use wire::Counted;
 use wire::Refusal;
 
 // The kind (its first byte, 20 for COMMAND), how long each text is, and how many bytes were read; or
@@ -32,8 +34,8 @@ pub enum Requested {
 
 // A request that reads well: its kind, where its n strings start, how long each text is, and how
 // many bytes it has.
-enum Judged {
-    Well {
+enum RequestAt {
+    At {
         kind: u8,
         from: usize,
         n: usize,
@@ -53,24 +55,24 @@ fn beyond_two(n: usize) -> usize
 }
 
 // A request of a kind whose n strings start at `from`, judged two by two.
-fn strings_from(bytes: &[u8], kind: u8, from: usize, n: usize) -> Judged
+fn strings_from(bytes: &[u8], kind: u8, from: usize, n: usize) -> RequestAt
     requires { ⌜ n ≤ 4 ⌝ }
     ensures { λ r. ⌜ r ≡ stringsFrom kind from (length (now (bytes .entry)) - from) (texts n (drop from (now (bytes .entry)))) ⌝ }
 {
     match basex::two_at(bytes, from, n) {
-        TwoAt::Refused(r) => Judged::Refused(r),
+        TwoAt::Refused(r) => RequestAt::Refused(r),
         TwoAt::At {
             first,
             second,
             next,
         } => {
             match basex::two_at(bytes, next, beyond_two(n)) {
-                TwoAt::Refused(r) => Judged::Refused(r),
+                TwoAt::Refused(r) => RequestAt::Refused(r),
                 TwoAt::At {
                     first: third,
                     second: fourth,
                     next: read,
-                } => Judged::Well {
+                } => RequestAt::At {
                     kind,
                     from,
                     n,
@@ -86,15 +88,15 @@ fn strings_from(bytes: &[u8], kind: u8, from: usize, n: usize) -> Judged
 }
 
 // The request at the front of the bytes, judged; nothing is stored.
-fn judge(bytes: &[u8]) -> Judged
-    ensures { λ r. ⌜ r ≡ judged (length (now (bytes .entry))) (reading (now (bytes .entry))) ⌝ }
+fn judge(bytes: &[u8]) -> RequestAt
+    ensures { λ r. ⌜ r ≡ requestAt (length (now (bytes .entry))) (reading (now (bytes .entry))) ⌝ }
 {
     if bytes.len() == 0 {
-        return Judged::Refused(Refusal::MoreBytes);
+        return RequestAt::Refused(Refusal::MoreBytes);
     }
     let b = bytes[0];
     match basex::find(b) {
-        Found::Unknown => Judged::Refused(Refusal::UnknownInstruction),
+        Found::Unknown => RequestAt::Refused(Refusal::UnknownInstruction),
         Found::Known(n, reply) => {
             if basex::is_command(reply) {
                 strings_from(bytes, 0x20, 0, n)
@@ -107,11 +109,12 @@ fn judge(bytes: &[u8]) -> Judged
 
 // The request at the front of the bytes, its texts one behind the other in the output.
 pub fn read_request(bytes: &[u8], out: &mut [u8]) -> Requested
-    ensures { λ r. ⌜ (r ≡ requested (length (now (bytes .entry))) (length (now (out .entry))) (reading (now (bytes .entry)))) × (now (out .exit) ≡ left (now (out .entry)) (reading (now (bytes .entry)))) ⌝ }
+    ensures { λ r. ⌜ Gives (requested (length (now (bytes .entry))) (length (now (out .entry))) (reading (now (bytes .entry))))
+        (outputRead textBytes (now (out .entry)) 0 (reading (now (bytes .entry)))) r (now (out .exit)) ⌝ }
 {
     match judge(bytes) {
-        Judged::Refused(r) => Requested::Refused(r),
-        Judged::Well {
+        RequestAt::Refused(r) => Requested::Refused(r),
+        RequestAt::At {
             kind,
             from,
             n,
@@ -146,11 +149,14 @@ pub fn write_request(
     second: &[u8],
     third: &[u8],
     fourth: &[u8],
-) -> Spelled
-    ensures { λ r. ⌜ (r ≡ written (length (now (out .entry))) kind (now (first .entry) ∷ now (second .entry) ∷ now (third .entry) ∷ now (fourth .entry) ∷ [])) × (now (out .exit) ≡ written-left (now (out .entry)) kind (now (first .entry) ∷ now (second .entry) ∷ now (third .entry) ∷ now (fourth .entry) ∷ []) r) ⌝ }
+) -> Counted
+    ensures { λ r. ⌜ Writes
+        (written (length (now (out .entry))) kind (four (now (first .entry)) (now (second .entry)) (now (third .entry)) (now (fourth .entry))))
+        (now (out .entry)) 0
+        (bytesOf kind (four (now (first .entry)) (now (second .entry)) (now (third .entry)) (now (fourth .entry)))) r (now (out .exit)) ⌝ }
 {
     match basex::find(kind) {
-        Found::Unknown => Spelled::Refused(Refusal::UnknownInstruction),
+        Found::Unknown => Counted::Refused(Refusal::UnknownInstruction),
         Found::Known(n, reply) => {
             if coding::takes(n, first, second, third, fourth) {
                 if basex::is_command(reply) {
@@ -158,7 +164,7 @@ pub fn write_request(
                 }
                 return coding::write_coded(out, kind, n, first, second, third, fourth);
             }
-            Spelled::Refused(Refusal::ValueNotAllowed)
+            Counted::Refused(Refusal::ValueNotAllowed)
         }
     }
 }

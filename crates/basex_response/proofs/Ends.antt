@@ -9,16 +9,17 @@ use lib.ListN.{length, take, length-append}
 use borrow.Author.Tests.{leb-true}
 use Rattle.wire.specs.Bytes.{if}
 use Rattle.wire.specs.declared.Refusal.the-variants.{ValueNotAllowed}
-use Rattle.basex_string.specs.declared.Spelled.{Spelled}
-use Rattle.basex_string.specs.declared.Spelled.the-variants.{Refused}
+use Rattle.wire.specs.declared.Counted.{Counted}
+use Rattle.wire.specs.declared.Counted.the-variants.{Refused}
 use Rattle.basex_string.specs.Strings.{string}
 use Rattle.basex.specs.declared.Reply.{Reply}
 use Rattle.basex.specs.declared.Found.the-variants.{Known}
 use Rattle.basex.specs.Kinds.{findOf, ahead, behind, listed, statusAllowed}
 use Rattle.basex.specs.Response.{itemsBytes, encode}
 use Rattle.basex.specs.Texts.{strings, unused}
-use Rattle.basex_response.specs.Writing.{inRoom, endOf, endWritten, endWrittenAs, endBytes}
-use Rattle.basex_response.specs.Spelling.{stringIf, placeIf, zeroIf, aheadParts, lastParts, endParts, endAllowed}
+use Rattle.wire.specs.Call.{inRoom}
+use Rattle.basex_response.specs.Writing.{endOf, endWritten, endWrittenAs, endBytes}
+use Rattle.basex_response.specs.inner.Spelling.{stringIf, placeIf, zeroIf, aheadParts, lastParts, endParts, endAllowed}
 use Rattle.basex_response.proofs.Fields.{ahead-few, behind-few}
 
 pub ahead-size : (n : ℕ) (first second : List ℕ) → length (aheadParts n first second) ≡ length (stringIf (ltb 0 n) first) + length (stringIf (ltb 1 n) second)
@@ -65,11 +66,11 @@ one-place (suc zero) h error = refl
 one-place (suc (suc n)) h error = absurd (omega arith)
 
 -- what writing an end answers
-abbrev chosen : Bool → Spelled → Spelled
+abbrev chosen : Bool → Counted → Counted
 chosen t x = if t x (Refused ValueNotAllowed)
 
 module _ (room at : ℕ) (n : ℕ) (reply : Reply) (first second : List ℕ) (status : ℕ) (error : List ℕ) where
-  abbrev answer : Spelled
+  abbrev answer : Counted
   answer = inRoom room at (length (encode reply (endOf reply first second status error)))
 
   end-told : endWrittenAs room at (Known n reply) first second status error ≡ chosen (endAllowed reply first second status error) answer

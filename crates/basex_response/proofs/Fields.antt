@@ -7,12 +7,12 @@ use native.Mathlib.Omega.{arith}
 use lib.ListN.{length, getD, drop, drop-of-length-le, length-drop}
 use borrow.Author.Tests.{le-leb, lt-leb}
 use Rattle.wire.specs.Bytes.{if}
-use Rattle.wire.specs.Fields.{Got, goOn, give, judged}
+use Rattle.wire.specs.Fields.{Got, goOn, give, required}
 use Rattle.wire.specs.declared.Refusal.{Refusal}
 use Rattle.wire.specs.declared.Refusal.the-variants.{MoreBytes, ValueNotAllowed}
 use Rattle.basex_string.proofs.Steps.{here}
 use Rattle.basex.specs.declared.Reply.{Reply}
-use Rattle.basex.specs.declared.Reply.the-variants.{Command, Stored, Query, Results, Full}
+use Rattle.basex.specs.declared.Reply.the-variants.{Command, Create, Query, Results, Full}
 use Rattle.basex.specs.declared.TwoAt.the-variants as two-at
 use Rattle.basex.specs.Kinds.{ahead, behind, listed, isFull, statusAllowed}
 use Rattle.basex.specs.Response.{Item, Response, listBytes, itemsBytes}
@@ -23,20 +23,20 @@ use Rattle.basex_response.specs.declared.items.ItemsAt.the-variants as i
 use Rattle.basex_response.specs.declared.read.EndAt.the-variants as end-at
 use Rattle.basex_response.specs.Items.{list, itemTexts}
 use Rattle.basex_response.specs.Reading.{listField, fieldsOf}
-use Rattle.basex_response.specs.Judging.{itemsAt, Ending, ending, endAt, judgement}
+use Rattle.basex_response.specs.inner.Judging.{itemsAt, Ending, ending, endAt, judgement}
 use Rattle.basex_response.proofs.Sizes.{Two, two-here, two-not, all-of, behind-at, behind-is}
 use Rattle.basex_response.proofs.Lists.{list-exact}
 
 pub ahead-few : (reply : Reply) → ahead reply ≤ 2
 ahead-few Command = omega arith
-ahead-few Stored = omega arith
+ahead-few Create = omega arith
 ahead-few Query = omega arith
 ahead-few Results = omega arith
 ahead-few Full = omega arith
 
 pub behind-few : (reply : Reply) (status : ℕ) → behind reply status ≤ status
 behind-few Command status = omega arith
-behind-few Stored status = omega arith
+behind-few Create status = omega arith
 behind-few Query status = omega arith
 behind-few Results status = omega arith
 behind-few Full status = omega arith
@@ -93,7 +93,7 @@ ending-exact reply (status ∷ s) e rest p = by (statusAllowed status) p
         let l : last ≡ rest = cc in
         ap (λ (m : List ℕ). status ∷ m) (texts-exact _ s es last q .1) ∙ ap (λ (d : Ending). (d .status ∷ strings (d .error)) ++ last) u ∙ ap (λ (m : List ℕ). (e .status ∷ strings (e .error)) ++ m) l
 
-    by : (t : Bool) → goOn (judged t ValueNotAllowed s) (λ _ more. goOn {B = Ending} (texts (behind reply status) more) (λ es. give (record { status = status; error = es }))) ≡ Got.got e rest → status ∷ s ≡ (e .status ∷ strings (e .error)) ++ rest
+    by : (t : Bool) → goOn (required t ValueNotAllowed s) (λ _ more. goOn {B = Ending} (texts (behind reply status) more) (λ es. give (record { status = status; error = es }))) ≡ Got.got e rest → status ∷ s ≡ (e .status ∷ strings (e .error)) ++ rest
     by false f = let z : _≡_ {A = ℕ} 0 1 = cc in absurd (omega arith)
     by true f = then (texts (behind reply status) s) refl f
 
@@ -120,8 +120,8 @@ module _ (reply : Reply) (s : List ℕ) where
         then (Got.got es n) = refl
 
         by : (t : Bool)
-            → goOn (judged t ValueNotAllowed last) (λ _ m. goOn {B = Response} (texts (behind reply status) m) (λ es. give (record { texts = ts; items = is; status = status; error = es })))
-            ≡ goOn {B = Response} (goOn (judged t ValueNotAllowed last) (λ _ m. goOn {B = Ending} (texts (behind reply status) m) (λ es. give (record { status = status; error = es })))) (λ d. give (record { texts = ts; items = is; status = d .status; error = d .error }))
+            → goOn (required t ValueNotAllowed last) (λ _ m. goOn {B = Response} (texts (behind reply status) m) (λ es. give (record { texts = ts; items = is; status = status; error = es })))
+            ≡ goOn {B = Response} (goOn (required t ValueNotAllowed last) (λ _ m. goOn {B = Ending} (texts (behind reply status) m) (λ es. give (record { status = status; error = es })))) (λ d. give (record { texts = ts; items = is; status = d .status; error = d .error }))
         by false = refl
         by true = then (texts (behind reply status) last)
 

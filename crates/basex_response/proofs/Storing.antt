@@ -5,19 +5,20 @@ use mathlib.Core.List.{List, [], _∷_, _++_, flatten}
 use Prim.Native.Nat.{ℕ, suc, _+_, _-_, _≤_, _<_}
 use native.Mathlib.Omega.{arith}
 use lib.ListN.{length, getD, drop, length-append, length-drop}
-use Rattle.wire.specs.Bytes.{over}
+use Rattle.wire.specs.Bytes.{splice}
+use Rattle.wire.specs.Call.{Gives}
 use Rattle.wire.specs.Fields.{Got, goOn, give}
-use Rattle.wire.proofs.Over.{Ahead, start, step, placed-fits, over-none}
+use Rattle.wire.proofs.Splices.{Ahead, start, step, putAt-fits, splice-none}
 use Rattle.basex_string.proofs.Steps.{here, ahead-none}
 use Rattle.basex_string.specs.declared.Ends.{Ends}
 use Rattle.basex.specs.declared.Reply.{Reply}
 use Rattle.basex.specs.Kinds.{itemStrings, listed, isFull}
 use Rattle.basex.specs.Response.{Item, itemsBytes}
-use Rattle.basex.specs.Texts.{strings, texts, Stored, stored, ends}
+use Rattle.basex.specs.Texts.{strings, texts, TextsStored, textsStored, ends}
 use Rattle.basex.proofs.Texts.{texts-exact, texts-stored}
 use Rattle.basex_response.specs.Items.{Next, next, list, itemTexts}
 use Rattle.basex_response.specs.Reading.{listField}
-use Rattle.basex_response.specs.Judging.{ListFits, listStored}
+use Rattle.basex_response.specs.inner.Judging.{ListFits, listStored}
 use Rattle.basex_response.proofs.Sizes.{flatten-append, all-of, behind-at, behind-is}
 use Rattle.basex_response.proofs.Lists.{next-item, list-refused, list-end, list-item, list-exact}
 
@@ -31,7 +32,7 @@ pub record Put (b t : List ℕ) (at to size : ℕ) (rest : List ℕ) (r : Ends) 
 
 -- texts that were judged, and more ahead
 pub put-texts : (b t : List ℕ) (at to n : ℕ) (ts : List (List ℕ)) (rest out ahead : List ℕ) → at ≤ length b → texts n (drop at b) ≡ Got.got ts rest → Ahead t out to (flatten ts ++ ahead)
-    → (r : Ends) (out' : List ℕ) → r ≡ ends at (length b - at) (stored n out to (drop at b)) → out' ≡ stored n out to (drop at b) .out → Put b t at to (length (flatten ts)) rest r out' ahead
+    → (r : Ends) (out' : List ℕ) → r ≡ ends at (length b - at) (textsStored n out to (drop at b)) → out' ≡ textsStored n out to (drop at b) .out → Put b t at to (length (flatten ts)) rest r out' ahead
 put-texts b t at to n ts rest out ahead h x w r out' p q =
     let l = length-append (flatten ts) ahead in
     let fit : to + length (flatten ts) ≤ length out = let z = w .fits in omega arith in
@@ -40,13 +41,13 @@ put-texts b t at to n ts rest out ahead h x w r out' p q =
     let z = all-of b at (strings ts) rest y in
     let rn : r .next ≡ at + length (strings ts) = ap (λ (m : Ends). m .next) (p ∙ ap (ends at (length b - at)) st) ∙ behind-at b at (strings ts) rest y in
     let rt : r .to ≡ to + length (flatten ts) = ap (λ (m : Ends). m .to) (p ∙ ap (ends at (length b - at)) st) in
-    let o : out' ≡ over out to (flatten ts) = q ∙ ap (λ (m : Stored). m .out) st in
+    let o : out' ≡ splice out to (flatten ts) = q ∙ ap (λ (m : TextsStored). m .out) st in
     record {
       reads = ap (λ (m : ℕ). drop m b) rn ∙ behind-is b at (strings ts) rest y;
       sum = omega arith;
       on = omega arith;
       free = rt;
-      writes = step (flatten ts) (r .to) w (o ∙ sym (placed-fits out to (flatten ts) fit)) rt;
+      writes = step (flatten ts) (r .to) w (o ∙ sym (putAt-fits out to (flatten ts) fit)) rt;
     }
 
 -- a list with a first item: the item, and the list behind it
@@ -72,7 +73,7 @@ list-more full s i is rest e = by (next full s) refl
             record { behind = more; first = p ∙ ap (λ (k : Item). Got.got (Next.item k) more) a; then = q ∙ ap (λ (ks : List Item). Got.got ks last) b ∙ ap (Got.got is) l }
 
 -- from `from` on so many items are left; their texts, put from `to` on, make the whole
-pub record Going (full : Bool) (b : List ℕ) (whole : Stored) (from left : ℕ) (out : List ℕ) (to : ℕ) : Type 0 where
+pub record Going (full : Bool) (b : List ℕ) (whole : TextsStored) (from left : ℕ) (out : List ℕ) (to : ℕ) : Type 0 where
   pub is : List Item
   pub got : list full (drop from b) ≡ Got.got is (whole .rest)
   pub count : left ≡ length is
@@ -87,11 +88,11 @@ going-start full b at count left out to h e = by (list full (drop at b)) refl h
     by (Got.got is rest) p f = record { is = is; got = p; count = e ∙ f .0; ahead = start out to (flatten (itemTexts is)) (f .1); ends = refl }
 
 -- one turn
-module _ (full : Bool) (b : List ℕ) (whole : Stored) (from left : ℕ) (out : List ℕ) (to : ℕ) (g : Going full b whole from left out to) where
+module _ (full : Bool) (b : List ℕ) (whole : TextsStored) (from left : ℕ) (out : List ℕ) (to : ℕ) (g : Going full b whole from left out to) where
   pub going-inside : from < length b
   going-inside = let x = ap length (list-exact full (drop from b) (g .is) (whole .rest) (g .got)) in omega (arith, length-drop from b, length-append (itemsBytes (g .is)) (0 ∷ whole .rest))
 
-  module _ (n : ℕ) (e : n ≡ itemStrings full (getD b from 0)) (r : Ends) (out' : List ℕ) (p : r ≡ ends (from + 1) (length b - (from + 1)) (stored n out to (drop (from + 1) b))) (q : out' ≡ stored n out to (drop (from + 1) b) .out) where
+  module _ (n : ℕ) (e : n ≡ itemStrings full (getD b from 0)) (r : Ends) (out' : List ℕ) (p : r ≡ ends (from + 1) (length b - (from + 1)) (textsStored n out to (drop (from + 1) b))) (q : out' ≡ textsStored n out to (drop (from + 1) b) .out) where
     pub going-on : (k : ℕ) → left ≡ suc k → Going full b whole (r .next) k out' (r .to) × (from ≤ r .next)
     unfolding itemTexts
     going-on k h = by (g .is) (g .got) (g .count) (g .ahead) (g .ends)
@@ -113,18 +114,20 @@ module _ (full : Bool) (b : List ℕ) (whole : Stored) (from left : ℕ) (out : 
             let o = y .on in
             (record { is = is; got = ap (list full) (y .reads) ∙ m .then; count = omega arith; ahead = y .writes; ends = omega arith }, omega arith)
 
-  pub going-done : (at : ℕ) → at ≤ from → left ≡ 0 → (record { next = from + 1; to = to } ≡ ends at (length b - at) whole) × (out ≡ whole .out)
+  pub going-done : (at : ℕ) → at ≤ from → left ≡ 0 → Gives (ends at (length b - at) whole) (whole .out) (record { next = from + 1; to = to }) out
   unfolding itemTexts flatten itemsBytes
   going-done at k h = by (g .is) (g .got) (g .count) (g .ahead) (g .ends)
     where
-      by : (is : List Item) → list full (drop from b) ≡ Got.got is (whole .rest) → left ≡ length is → Ahead (whole .out) out to (flatten (itemTexts is)) → to + length (flatten (itemTexts is)) ≡ whole .to → (record { next = from + 1; to = to } ≡ ends at (length b - at) whole) × (out ≡ whole .out)
+      by : (is : List Item) → list full (drop from b) ≡ Got.got is (whole .rest) → left ≡ length is → Ahead (whole .out) out to (flatten (itemTexts is)) → to + length (flatten (itemTexts is)) ≡ whole .to
+          → Gives (ends at (length b - at) whole) (whole .out) (record { next = from + 1; to = to }) out
       by (i ∷ is) s c a t = absurd (omega arith)
       by [] s c a t =
           let x = ap length (list-exact full (drop from b) [] (whole .rest) s) in
           let d = length-drop from b in
           let n : from + 1 ≡ at + (length b - at - length (whole .rest)) = omega arith in
           let m : to ≡ whole .to = omega arith in
-          (ap (λ (z : ℕ). record { next = z; to = to }) n ∙ ap (λ (z : ℕ). record { next = at + (length b - at - length (whole .rest)); to = z }) m, ahead-none a refl)
+          let k : ℕ = at + (length b - at - length (whole .rest)) in
+          record { answers = ap (λ (z : ℕ). record { next = z; to = to }) n ∙ ap (λ (z : ℕ). record { next = k; to = z }) m; leaves = ahead-none a refl }
 
 -- the list of a response, or none
 module _ (reply : Reply) (s : List ℕ) where
@@ -135,9 +138,13 @@ module _ (reply : Reply) (s : List ℕ) where
   field-none e = rw e refl
 
 pub none-stored : (reply : Reply) (b : List ℕ) (at : ℕ) (out : List ℕ) (to : ℕ) → listed reply ≡ false
-    → (record { next = at; to = to } ≡ ends at (length b - at) (listStored out to (listField reply (drop at b)))) × (out ≡ listStored out to (listField reply (drop at b)) .out)
+    → Gives (ends at (length b - at) (listStored out to (listField reply (drop at b)))) (listStored out to (listField reply (drop at b)) .out) (record { next = at; to = to }) out
 unfolding itemTexts flatten
 none-stored reply b at out to e =
     let n : at ≡ at + (length b - at - length (drop at b)) = omega (arith, length-drop at b) in
     let m : to ≡ to + 0 = omega arith in
-    (rw (field-none reply (drop at b) e) (ap (λ (z : ℕ). record { next = z; to = to }) n ∙ ap (λ (z : ℕ). record { next = at + (length b - at - length (drop at b)); to = z }) m), rw (field-none reply (drop at b) e) (sym (over-none out to)))
+    let k : ℕ = at + (length b - at - length (drop at b)) in
+    rw (field-none reply (drop at b) e) (record {
+      answers = ap (λ (z : ℕ). record { next = z; to = to }) n ∙ ap (λ (z : ℕ). record { next = k; to = z }) m;
+      leaves = sym (splice-none out to);
+    })

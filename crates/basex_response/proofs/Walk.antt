@@ -16,7 +16,7 @@ use Rattle.basex_response.specs.declared.ItemAt.the-variants as item-at
 use Rattle.basex_response.specs.declared.items.ItemsAt.{ItemsAt}
 use Rattle.basex_response.specs.declared.items.ItemsAt.the-variants as items-at
 use Rattle.basex_response.specs.Items.{Next, next, list, itemTexts, itemAt, uriLength, textLength}
-use Rattle.basex_response.specs.Judging.{itemsAt}
+use Rattle.basex_response.specs.inner.Judging.{itemsAt}
 use Rattle.basex_response.proofs.Sizes.{flatten-append, two-lengths, one-length, all-of, behind-at, behind-is}
 use Rattle.basex_response.proofs.Lists.{next-item, item-exact, item-size, list-refused, list-end, list-item, list-room}
 

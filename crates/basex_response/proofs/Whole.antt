@@ -7,22 +7,25 @@ use native.Mathlib.Omega.{arith}
 use lib.ListN.{length, drop, length-append}
 use lib.Seq.{drop-drop}
 use borrow.Author.Tests.{leb-true, lt-ltb, le-ltb}
-use Rattle.wire.specs.Bytes.{if, over}
-use Rattle.wire.specs.Fields.{Got, goOn, give, judged}
+use Rattle.wire.specs.Bytes.{if, splice}
+use Rattle.wire.specs.Call.{Gives}
+use Rattle.wire.specs.Fields.{Got, goOn, give, required}
 use Rattle.wire.specs.declared.Refusal.{Refusal}
 use Rattle.wire.specs.declared.Refusal.the-variants.{MoreBytes, ValueNotAllowed, NoRoom}
-use Rattle.wire.proofs.Over.{Ahead, start, step, placed-fits, placed-not}
+use Rattle.wire.proofs.Splices.{Ahead, start, step, putAt-fits, putAt-not}
 use Rattle.basex_string.proofs.Steps.{ahead-none}
+use Rattle.basex_string.specs.Answers.{outputRead}
 use Rattle.basex_string.specs.declared.Ends.{Ends}
 use Rattle.basex.specs.declared.Reply.{Reply}
 use Rattle.basex.specs.Kinds.{findOf, ahead, behind, listed, isFull, statusAllowed}
 use Rattle.basex.specs.Response.{Item, Response, listBytes}
-use Rattle.basex.specs.Texts.{strings, texts, lengthAt, Stored, stored, ends}
+use Rattle.basex.specs.Texts.{strings, texts, lengthAt, TextsStored, textsStored, ends}
 use Rattle.basex.proofs.Texts.{texts-exact}
+use Rattle.basex_response.specs.declared.Replied.{Replied}
 use Rattle.basex_response.specs.declared.Replied.the-variants as replied
 use Rattle.basex_response.specs.Items.{list, itemTexts}
-use Rattle.basex_response.specs.Reading.{listField, fieldsOf, allTexts, reading, readingAs, answered, left}
-use Rattle.basex_response.specs.Judging.{Ending, ending, judgement, ListFits, listStored, Fits}
+use Rattle.basex_response.specs.Reading.{listField, fieldsOf, allTexts, reading, readingAs, textBytes, answered}
+use Rattle.basex_response.specs.inner.Judging.{Ending, ending, judgement, ListFits, listStored, Fits}
 use Rattle.basex_response.proofs.Sizes.{flatten-append, texts-shorter, two-lengths, one-length, all-of, behind-at, behind-is}
 use Rattle.basex_response.proofs.Lists.{list-room}
 use Rattle.basex_response.proofs.Fields.{ahead-few, behind-few, list-field-exact, fields-end, fields-refused, fields-list-refused}
@@ -56,7 +59,7 @@ module _ (reply : Reply) (b : List ℕ) (p : Response) (rest : List ℕ) where
           let k : m ≡ rest = cc in
           subst (λ (y : Response). Parts reply b y rest) u (record { more = more; last = status ∷ tail; tail = tail; first = f; list = l; status = refl; allowed = h; error = q ∙ ap (Got.got es) k })
 
-      by : (t : Bool) → statusAllowed status ≡ t → withEnd ts is (goOn (judged t ValueNotAllowed tail) (λ _ m. goOn (texts (behind reply status) m) (λ es. give (record { status = status; error = es })))) ≡ Got.got p rest → Parts reply b p rest
+      by : (t : Bool) → statusAllowed status ≡ t → withEnd ts is (goOn (required t ValueNotAllowed tail) (λ _ m. goOn (texts (behind reply status) m) (λ es. give (record { status = status; error = es })))) ≡ Got.got p rest → Parts reply b p rest
       by false q g = let z : _≡_ {A = ℕ} 0 1 = cc in absurd (omega arith)
       by true q g = then (leb-true _ _ q) (texts (behind reply status) tail) refl g
 
@@ -127,7 +130,7 @@ ready reply b items status room f = by (fieldsOf reply b) refl f
 
 -- the output with all texts of a response in front
 abbrev pub made : List ℕ → Response → List ℕ
-made out p = over out 0 (flatten (allTexts p))
+made out p = splice out 0 (flatten (allTexts p))
 
 -- the texts of its items and its error
 abbrev pub others : Response → List ℕ
@@ -135,7 +138,7 @@ others p = flatten (itemTexts (p .items)) ++ flatten (p .error)
 
 module _ (reply : Reply) (b : List ℕ) (items status : ℕ) (out : List ℕ) (j : Ready reply b items status (length out)) where
   -- the strings ahead are stored
-  pub stage-one : (n : ℕ) → n ≡ ahead reply → (r : Ends) (out' : List ℕ) → r ≡ ends 0 (length b - 0) (stored n out 0 b) → out' ≡ stored n out 0 b .out
+  pub stage-one : (n : ℕ) → n ≡ ahead reply → (r : Ends) (out' : List ℕ) → r ≡ ends 0 (length b - 0) (textsStored n out 0 b) → out' ≡ textsStored n out 0 b .out
       → Put b (made out (j .response)) 0 0 (length (flatten (j .response .texts))) (j .parts .more) r out' (others (j .response))
   stage-one n e r out' p q =
       let w : Ahead (made out (j .response)) out 0 (flatten (j .response .texts) ++ others (j .response)) = subst (Ahead (made out (j .response)) out 0) (all-flat (j .response)) (start out 0 (flatten (allTexts (j .response))) (let h = j .fits in omega arith)) in
@@ -159,14 +162,14 @@ module _ (reply : Reply) (b : List ℕ) (items status : ℕ) (out : List ℕ) (j
         let st = ap (listStored one (r .to)) list-got in
         let qn : q .next ≡ r .next + length (listBytes reply is) = ap (λ (m : Ends). m .next) (e ∙ ap (ends (r .next) (length b - r .next)) st) ∙ behind-at b (r .next) (listBytes reply is) (j .parts .last) x in
         let qt : q .to ≡ r .to + length (flatten (itemTexts is)) = ap (λ (m : Ends). m .to) (e ∙ ap (ends (r .next) (length b - r .next)) st) in
-        let o : two ≡ over one (r .to) (flatten (itemTexts is)) = f ∙ ap (λ (m : Stored). m .out) st in
+        let o : two ≡ splice one (r .to) (flatten (itemTexts is)) = f ∙ ap (λ (m : TextsStored). m .out) st in
         let fit : r .to + length (flatten (itemTexts is)) ≤ length one = let h = u .writes .fits in omega (arith, length-append (flatten (itemTexts is)) (flatten (j .response .error))) in
         record {
           reads = ap (λ (m : ℕ). drop m b) qn ∙ behind-is b (r .next) (listBytes reply is) (j .parts .last) x;
           sum = omega arith;
           on = omega arith;
           free = qt;
-          writes = step (flatten (itemTexts is)) (q .to) (u .writes) (o ∙ sym (placed-fits one (r .to) (flatten (itemTexts is)) fit)) qt;
+          writes = step (flatten (itemTexts is)) (q .to) (u .writes) (o ∙ sym (putAt-fits one (r .to) (flatten (itemTexts is)) fit)) qt;
         }
 
   -- the error is stored, and with it all
@@ -174,14 +177,14 @@ module _ (reply : Reply) (b : List ℕ) (items status : ℕ) (out : List ℕ) (j
     pub status-there : r .next < length b
     status-there = let s = u .sum in let l = ap length (j .parts .status) in omega arith
 
-    pub stage-three : (m : ℕ) → m ≡ behind reply status → (q : Ends) (three : List ℕ) → q ≡ ends (r .next + 1) (length b - (r .next + 1)) (stored m two (r .to) (drop (r .next + 1) b)) → three ≡ stored m two (r .to) (drop (r .next + 1) b) .out → three ≡ left out (fieldsOf reply b)
+    pub stage-three : (m : ℕ) → m ≡ behind reply status → (q : Ends) (three : List ℕ) → q ≡ ends (r .next + 1) (length b - (r .next + 1)) (textsStored m two (r .to) (drop (r .next + 1) b)) → three ≡ textsStored m two (r .to) (drop (r .next + 1) b) .out → three ≡ outputRead textBytes out 0 (fieldsOf reply b)
     stage-three m e q three f g =
         let h = status-there in
         let k : drop (r .next + 1) b ≡ j .parts .tail = sym (drop-drop 1 (r .next) b) ∙ ap (drop 1) (u .reads ∙ j .parts .status) in
         let x : texts m (drop (r .next + 1) b) ≡ Got.got (j .response .error) (j .rest) = ap (texts m) k ∙ ap (λ (n : ℕ). texts n (j .parts .tail)) (e ∙ ap (behind reply) (j .state)) ∙ j .parts .error in
         let w = subst (Ahead (made out (j .response)) two (r .to)) (sym (append-nil (flatten (j .response .error)))) (u .writes) in
         let v = put-texts b (made out (j .response)) (r .next + 1) (r .to) m (j .response .error) (j .rest) two [] (omega arith) x w q three f g in
-        ahead-none (v .writes) refl ∙ sym (placed-fits out 0 (flatten (allTexts (j .response))) (let t = j .fits in omega arith)) ∙ ap (left out) (sym (j .got))
+        ahead-none (v .writes) refl ∙ sym (putAt-fits out 0 (flatten (allTexts (j .response))) (let t = j .fits in omega arith)) ∙ ap (outputRead textBytes out 0) (sym (j .got))
 
 -- what judging told: a response, how long its texts are together, and the answer with the room
 pub record Told (reply : Reply) (b : List ℕ) (sum items status : ℕ) : Type 0 where
@@ -211,18 +214,23 @@ module _ (reply : Reply) (b : List ℕ) where
           let h = all-short reply b a rest d in
           record { response = a; rest = rest; got = p; all = omega arith; count = n; state = t; short = omega arith }
 
-  pub not-told : (r : Refusal) (room : ℕ) (out : List ℕ) → judgement (length b) (fieldsOf reply b) ≡ replied.Refused r → (replied.Refused r ≡ answered (length b) room (fieldsOf reply b)) × (out ≡ left out (fieldsOf reply b))
-  not-told r room out e = by (fieldsOf reply b) e
+  -- a contract of reading
+  abbrev Reads : List ℕ → Got Response → Replied → List ℕ → Type 0
+  Reads out x = Gives (answered (length b) (length out) x) (outputRead textBytes out 0 x)
+
+  pub not-told : (r : Refusal) (out : List ℕ) → judgement (length b) (fieldsOf reply b) ≡ replied.Refused r → Reads out (fieldsOf reply b) (replied.Refused r) out
+  not-told r out e = by (fieldsOf reply b) e
     where
-      by : (x : Got Response) → judgement (length b) x ≡ replied.Refused r → (replied.Refused r ≡ answered (length b) room x) × (out ≡ left out x)
-      by (Got.refused q) p = let z : r ≡ q = cc in (ap replied.Refused z, refl)
+      by : (x : Got Response) → judgement (length b) x ≡ replied.Refused r → Reads out x (replied.Refused r) out
+      by (Got.refused q) p = let z : r ≡ q = cc in record { answers = ap replied.Refused z; leaves = refl }
       by (Got.got a rest) p = let z : _≡_ {A = ℕ} 0 1 = cc in absurd (omega arith)
 
   module _ (sum items status : ℕ) (t : Told reply b sum items status) (out : List ℕ) where
-    pub no-room : length out < sum → (replied.Refused NoRoom ≡ answered (length b) (length out) (fieldsOf reply b)) × (out ≡ left out (fieldsOf reply b))
+    pub no-room : length out < sum → Reads out (fieldsOf reply b) (replied.Refused NoRoom) out
     no-room h =
         let a = t .all in
-        (rw (t .got) (rw (lt-ltb (length out) (length (flatten (allTexts (t .response)))) (omega arith)) refl), rw (t .got) (sym (placed-not out 0 (flatten (allTexts (t .response))) (omega arith))))
+        let n : List ℕ = textBytes (t .response) in
+        record { answers = rw (t .got) (rw (lt-ltb (length out) (length n) (omega arith)) refl); leaves = rw (t .got) (sym (putAt-not out 0 n (omega arith))) }
 
     pub roomy : sum ≤ length out → judgement (length b) (fieldsOf reply b) ≡ answered (length b) (length out) (fieldsOf reply b)
     roomy h = let a = t .all in rw (t .got) (rw (le-ltb (length out) (length (flatten (allTexts (t .response)))) (omega arith)) refl)

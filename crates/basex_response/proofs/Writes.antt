@@ -2,27 +2,27 @@
 use mathlib.Core.Path.{_≡_, refl, sym, ap, _∙_}
 use mathlib.Core.Bool.{Bool, true, false}
 use mathlib.Core.List.{List, [], _∷_, _++_, flatten, append-nil}
-use Prim.Native.Nat.{ℕ, _+_, _-_, _≤_, _<_}
+use Prim.Native.Nat.{ℕ, _+_, _-_, _≤_}
 use native.Mathlib.Omega.{arith}
-use lib.Dec.{leb, ltb, eqb}
+use lib.Dec.{leb, eqb}
 use lib.ListN.{length, length-append}
-use borrow.Author.Tests.{lt-ltb, le-ltb, ltb-true, ltb-false, le-leb, lt-leb, leb-true, leb-false}
-use Rattle.wire.specs.Bytes.{if, placed}
+use borrow.Author.Tests.{le-leb, lt-leb, leb-true, leb-false}
+use Rattle.wire.specs.Bytes.{if}
+use Rattle.wire.specs.Call.{inRoom, outputAfter, putAt, Gives, Writes}
 use Rattle.wire.specs.declared.Refusal.{Refusal}
-use Rattle.wire.specs.declared.Refusal.the-variants.{NoRoom, ValueNotAllowed}
-use Rattle.wire.proofs.Over.{Ahead, over-none, placed-fits, placed-not}
-use Rattle.basex_string.specs.declared.Spelled.{Spelled}
-use Rattle.basex_string.specs.declared.Spelled.the-variants.{Bytes, Refused}
-use Rattle.basex_string.specs.Answers.{spelling}
+use Rattle.wire.specs.declared.Refusal.the-variants.{ValueNotAllowed}
+use Rattle.wire.proofs.Call.{put-after, refused-short, refused-leaves}
+use Rattle.wire.proofs.Splices.{Ahead, splice-none, putAt-fits}
+use Rattle.wire.specs.declared.Counted.{Counted}
+use Rattle.wire.specs.declared.Counted.the-variants.{Refused}
 use Rattle.basex_string.specs.Strings.{string}
-use Rattle.basex_string.proofs.Steps.{spelling-fits}
 use Rattle.basex.specs.declared.Reply.{Reply}
 use Rattle.basex.specs.declared.Found.the-variants.{Known}
 use Rattle.basex.specs.Kinds.{findOf, listed, isFull, idAllowed, hasUri, itemStrings}
 use Rattle.basex.specs.Response.{itemBytes}
 use Rattle.basex.specs.Texts.{strings, unused}
-use Rattle.basex_response.specs.Writing.{inRoom, leftAt, itemOf, fullOf, itemWritten}
-use Rattle.basex_response.specs.Spelling.{stringIf, placeIf, itemParts}
+use Rattle.basex_response.specs.Writing.{itemOf, fullOf, itemWritten}
+use Rattle.basex_response.specs.inner.Spelling.{stringIf, placeIf, itemParts}
 
 module _ (room at n : ℕ) where
   pub room-behind : at ≤ room → leb n (room - at) ≡ leb (at + n) room
@@ -32,53 +32,21 @@ module _ (room at n : ℕ) where
       by true e = let l = leb-true n (room - at) e in sym (le-leb (at + n) room (omega arith))
       by false e = let l = leb-false n (room - at) e in sym (lt-leb (at + n) room (omega arith))
 
-  pub room-for : at + n ≤ room → Bytes n ≡ inRoom room at n
-  room-for h = rw (le-ltb room (at + n) h) refl
-
-  pub no-room-for : room < at + n → Refused NoRoom ≡ inRoom room at n
-  no-room-for h = rw (lt-ltb room (at + n) h) refl
-
-nothing-put : (out : List ℕ) (at : ℕ) → at + 0 ≤ length out → out ≡ placed out at []
-nothing-put out at h = sym (placed-fits out at [] h ∙ over-none out at)
+nothing-put : (out : List ℕ) (at : ℕ) → at + 0 ≤ length out → out ≡ putAt out at []
+nothing-put out at h = sym (putAt-fits out at [] h ∙ splice-none out at)
 
 -- nothing is put of a text that is not taken, and no 00 where there is no list
-pub none-put : (x : Bool → List ℕ) → x false ≡ [] → (out : List ℕ) (at : ℕ) (taken : Bool) → taken ≡ false → at + length (x taken) ≤ length out → (at ≡ at + length (x taken)) × (out ≡ placed out at (x taken))
+pub none-put : (x : Bool → List ℕ) → x false ≡ [] → (out : List ℕ) (at : ℕ) (taken : Bool) → taken ≡ false → at + length (x taken) ≤ length out
+    → Gives (at + length (x taken)) (putAt out at (x taken)) at out
 none-put x e out at taken f h =
     let k : x taken ≡ [] = ap x f ∙ e in
     let l = ap length k in
-    (omega arith, nothing-put out at (omega arith) ∙ ap (placed out at) (sym k))
+    record { answers = omega arith; leaves = nothing-put out at (omega arith) ∙ ap (putAt out at) (sym k) }
 
 -- a text that is taken is written
 module _ (out : List ℕ) (at : ℕ) (text : List ℕ) (h : at + length (string text) ≤ length out) where
-  pub written-all : (n : ℕ) → spelling (length out) at text ≡ Bytes n → n ≡ length (string text)
-  written-all n e = let b = spelling-fits (length out) at text (length (string text)) refl h in (cc)
-
-  pub never-refused : (r : Refusal) → spelling (length out) at text ≡ Refused r → ⊥
-  never-refused r e = let b = spelling-fits (length out) at text (length (string text)) refl h in let z : _≡_ {A = ℕ} 0 1 = cc in omega arith
-
--- what the room's answer tells
-module _ (room at k : ℕ) where
-  pub roomy-inv : (n : ℕ) → inRoom room at k ≡ Bytes n → (at + k ≤ room) × (n ≡ k)
-  roomy-inv n e = by (ltb room (at + k)) refl e
-    where
-      by : (t : Bool) → ltb room (at + k) ≡ t → if t (Refused NoRoom) (Bytes k) ≡ Bytes n → (at + k ≤ room) × (n ≡ k)
-      by true p q = let z : _≡_ {A = ℕ} 0 1 = cc in absurd (omega arith)
-      by false p q = (ltb-false _ _ p, (cc))
-
-  pub cramped-inv : (r : Refusal) → inRoom room at k ≡ Refused r → room < at + k
-  cramped-inv r e = by (ltb room (at + k)) refl e
-    where
-      by : (t : Bool) → ltb room (at + k) ≡ t → if t (Refused NoRoom) (Bytes k) ≡ Refused r → room < at + k
-      by true p q = ltb-true _ _ p
-      by false p q = let z : _≡_ {A = ℕ} 0 1 = cc in absurd (omega arith)
-
--- bytes that fit are put, and none else
-pub left-room : (out : List ℕ) (at : ℕ) (bytes : List ℕ) → placed out at bytes ≡ leftAt out at bytes (inRoom (length out) at (length bytes))
-left-room out at bytes = by (ltb (length out) (at + length bytes)) refl
-  where
-    by : (t : Bool) → ltb (length out) (at + length bytes) ≡ t → placed out at bytes ≡ leftAt out at bytes (if t (Refused NoRoom) (Bytes (length bytes)))
-    by true p = placed-not out at bytes (ltb-true _ _ p)
-    by false p = refl
+  pub never-refused : (r : Refusal) → inRoom (length out) at (length (string text)) ≡ Refused r → ⊥
+  never-refused r e = let f = refused-short (length out) at (length (string text)) r e .1 in omega arith
 
 -- what is put first fits
 pub first-fits : {t d : List ℕ} {at : ℕ} (x rest : List ℕ) → Ahead t d at (x ++ rest) → at + length x ≤ length d
@@ -109,8 +77,14 @@ uri-place true uri = refl
 uri-place false uri = ap (λ (m : List ℕ). eqb (length m) 0) (append-nil uri)
 
 -- what a writer answers and leaves, where its bytes are those of a definition
-pub put-left : (out : List ℕ) (at : ℕ) (parts bytes : List ℕ) → parts ≡ bytes → (r : Spelled) → r ≡ inRoom (length out) at (length parts) → (exit : List ℕ) → exit ≡ placed out at parts → exit ≡ leftAt out at bytes r
-put-left out at parts bytes e r p exit q = q ∙ left-room out at parts ∙ ap (λ (m : List ℕ). leftAt out at m (inRoom (length out) at (length parts))) e ∙ ap (leftAt out at bytes) (sym p)
+pub put-writes : (out : List ℕ) (at : ℕ) (parts bytes : List ℕ) → parts ≡ bytes → (answer : Counted) → inRoom (length out) at (length parts) ≡ answer → {r : Counted} {after : List ℕ}
+    → Gives (inRoom (length out) at (length parts)) (putAt out at parts) r after → Writes answer out at bytes r after
+put-writes out at parts bytes p answer e g =
+    let q = ap (λ (c : Counted). outputAfter c out at parts) e ∙ ap (outputAfter answer out at) p in
+    record { answers = g .answers ∙ e; leaves = g .leaves ∙ put-after out at parts ∙ q }
+
+pub refused-writes : (answer : Counted) (r : Refusal) (out : List ℕ) (at : ℕ) (bytes : List ℕ) → Refused r ≡ answer → Writes answer out at bytes (Refused r) out
+refused-writes answer r out at bytes e = record { answers = e; leaves = sym (refused-leaves answer r out at bytes (sym e)) }
 
 -- an item that may be written
 module _ (room at kind id : ℕ) (n : ℕ) (reply : Reply) (uri text : List ℕ) (k : findOf kind ≡ Known n reply) (u : Bool) (e : u ≡ hasUri (isFull reply) id) where

@@ -11,7 +11,6 @@ use Rattle.basex.specs.Kinds.{idAllowed, hasUri, itemStrings}
 use Rattle.basex.specs.Response.{Item}
 use Rattle.basex.specs.Texts.{texts, lengthAt}
 use Rattle.basex_response.specs.declared.ItemAt.{ItemAt}
-use Rattle.basex_response.specs.declared.ItemAt.the-variants as item-at
 
 -- an item, or the 00 behind the last
 pub data Next : Type 0 where
@@ -52,6 +51,6 @@ textLength full i = if (hasUri full (i .id)) (lengthAt (i .texts) 1) (lengthAt (
 
 -- of n bytes from `at` on, what stands there, as places: the id, how long the URI and the text are, and where what follows starts
 abbrev pub itemAt : Bool → ℕ → ℕ → Got Next → ItemAt
-itemAt full at n (Got.refused r) = item-at.Refused r
-itemAt full at n (Got.got (Next.item i) rest) = item-at.Item (i .id) (uriLength full i) (textLength full i) (at + (n - length rest))
-itemAt full at n (Got.got Next.end rest) = item-at.End (at + (n - length rest))
+itemAt full at n (Got.refused r) = ItemAt.Refused r
+itemAt full at n (Got.got (Next.item i) rest) = ItemAt.Item (i .id) (uriLength full i) (textLength full i) (at + (n - length rest))
+itemAt full at n (Got.got Next.end rest) = ItemAt.End (at + (n - length rest))

@@ -1,6 +1,5 @@
 pub mod Items
 pub mod Reading
-pub mod Judging
 pub mod Writing
-pub mod Spelling
 pub mod Errors
+pub mod inner

@@ -3,17 +3,15 @@ use mathlib.Core.List.{List, [], _∷_, _++_, flatten}
 use Prim.Native.Nat.{ℕ, _-_}
 use lib.Dec.{ltb}
 use lib.ListN.{length}
-use Rattle.wire.specs.Bytes.{if, placed}
-use Rattle.wire.specs.Fields.{Got, Field, _>>=_, _>>_, give, judged}
+use Rattle.wire.specs.Bytes.{if}
+use Rattle.wire.specs.Fields.{Got, Field, _>>=_, _>>_, give, required}
 use Rattle.wire.specs.declared.Refusal.the-variants.{MoreBytes, UnknownInstruction, ValueNotAllowed, NoRoom}
 use Rattle.basex.specs.declared.Found.{Found}
-use Rattle.basex.specs.declared.Found.the-variants.{Known, Unknown}
 use Rattle.basex.specs.declared.Reply.{Reply}
 use Rattle.basex.specs.Kinds.{findOf, ahead, behind, listed, isFull, statusAllowed}
 use Rattle.basex.specs.Response.{Item, Response}
 use Rattle.basex.specs.Texts.{texts, lengthAt}
 use Rattle.basex_response.specs.declared.Replied.{Replied}
-use Rattle.basex_response.specs.declared.Replied.the-variants as replied
 use Rattle.basex_response.specs.Items.{list, itemTexts}
 
 abbrev pub byteField : Field ℕ
@@ -30,13 +28,13 @@ fieldsOf reply = do
   ts ← texts (ahead reply)
   is ← listField reply
   status ← byteField
-  judged (statusAllowed status) ValueNotAllowed
+  required (statusAllowed status) ValueNotAllowed
   es ← texts (behind reply status)
   give (record { texts = ts; items = is; status = status; error = es })
 
 abbrev pub readingAs : Found → Field Response
-readingAs Unknown s = Got.refused UnknownInstruction
-readingAs (Known n reply) s = fieldsOf reply s
+readingAs Found.Unknown s = Got.refused UnknownInstruction
+readingAs (Found.Known n reply) s = fieldsOf reply s
 
 -- a response to a request that starts with the byte: "1 for no byte, 2, then fields"
 unfoldable pub reading : ℕ → Field Response
@@ -47,14 +45,15 @@ reading kind (b ∷ s) = readingAs (findOf kind) (b ∷ s)
 abbrev pub allTexts : Response → List (List ℕ)
 allTexts r = r .texts ++ (itemTexts (r .items) ++ r .error)
 
--- of n bytes, and with an output of so many: how long each text is (they stand one behind the other: the first, the second, those of the items, the error), how many items, the status, and the bytes read; "with 10 last"
-abbrev pub answered : ℕ → ℕ → Got Response → Replied
-answered n room (Got.refused r) = replied.Refused r
-answered n room (Got.got p rest) =
-    if (ltb room (length (flatten (allTexts p)))) (replied.Refused NoRoom)
-    (replied.Read (lengthAt (p .texts) 0) (lengthAt (p .texts) 1) (length (p .items)) (length (flatten (itemTexts (p .items)))) (p .status) (lengthAt (p .error) 0) (n - length rest))
+-- .. one behind the other, as they stand in the output
+abbrev pub textBytes : Response → List ℕ
+textBytes r = flatten (allTexts r)
 
--- the output then: the texts one behind the other in front, or as it was
-abbrev pub left : List ℕ → Got Response → List ℕ
-left out (Got.refused r) = out
-left out (Got.got p rest) = placed out 0 (flatten (allTexts p))
+-- of n bytes, and with an output of so many: how long each text is (the first, the second, those of the items, the error), how many items, the status,
+-- and the bytes read; "with 10 last"
+abbrev pub answered : ℕ → ℕ → Got Response → Replied
+answered n room (Got.refused r) = Replied.Refused r
+answered n room (Got.got p rest) =
+    if (ltb room (length (textBytes p))) (Replied.Refused NoRoom)
+    (Replied.Read (lengthAt (p .texts) 0) (lengthAt (p .texts) 1) (length (p .items)) (length (flatten (itemTexts (p .items)))) (p .status)
+    (lengthAt (p .error) 0) (n - length rest))

@@ -14,7 +14,7 @@ pub fn error_at(reply: Reply, first: usize, second: usize, listed: usize, error:
             start: first,
             len: second,
         },
-        Reply::Stored => Place {
+        Reply::Create => Place {
             start: 0,
             len: first,
         },

@@ -3,7 +3,7 @@ ghost use mathlib.Core.Path.{_≡_};
 ghost use Prim.Native.Nat.{_-_};
 ghost use lib.ListN.{length, drop};
 ghost use Rattle.basex_response.specs.Items.{next, list, itemAt};
-ghost use Rattle.basex_response.specs.Judging.{itemsAt};
+ghost use Rattle.basex_response.specs.inner.Judging.{itemsAt};
 use crate::ItemAt;
 use basex::TwoAt;
 use wire::Refusal;

@@ -1,4 +1,4 @@
-// Reads and writes the responses of a BaseX server, knowing the request.
+// BaseX responses: read knowing the request, their items handed out, and written.
 pub use errors::error_at;
 pub use items::item_at;
 pub use read::read_response;

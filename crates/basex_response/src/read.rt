@@ -2,10 +2,12 @@
 ghost use mathlib.Core.Path.{_≡_};
 ghost use Prim.Native.Nat.{_-_};
 ghost use lib.ListN.{length, drop};
+ghost use Rattle.wire.specs.Call.{Gives};
+ghost use Rattle.basex_string.specs.Answers.{outputRead};
 ghost use Rattle.basex.specs.Texts.{ends};
 ghost use Rattle.basex_response.specs.Items.{list};
-ghost use Rattle.basex_response.specs.Reading.{listField, fieldsOf, reading, answered, left};
-ghost use Rattle.basex_response.specs.Judging.{itemsAt, ending, endAt, judgement, ListFits, listStored, Fits};
+ghost use Rattle.basex_response.specs.Reading.{listField, fieldsOf, reading, textBytes, answered};
+ghost use Rattle.basex_response.specs.inner.Judging.{itemsAt, ending, endAt, judgement, ListFits, listStored, Fits};
 use crate::Replied;
 use crate::items::ItemsAt;
 use crate::items::items_at;
@@ -103,7 +105,8 @@ fn judge(reply: Reply, bytes: &[u8]) -> Replied
 // behind the last item is the 00.
 fn put_items(full: bool, bytes: &[u8], at: usize, count: usize, out: &mut [u8], to: usize) -> Ends
     requires { ⌜ ListFits count to (length (now out)) (list full (drop at (now bytes))) ⌝ }
-    ensures { λ r. ⌜ (r ≡ ends at (length (now (bytes .entry)) - at) (listStored (now (out .entry)) to (list full (drop at (now (bytes .entry)))))) × (now (out .exit) ≡ listStored (now (out .entry)) to (list full (drop at (now (bytes .entry)))) .out) ⌝ }
+    ensures { λ r. ⌜ Gives (ends at (length (now (bytes .entry)) - at) (listStored (now (out .entry)) to (list full (drop at (now (bytes .entry))))))
+        (listStored (now (out .entry)) to (list full (drop at (now (bytes .entry)))) .out) r (now (out .exit)) ⌝ }
 {
     let mut from = at;
     let mut end = to;
@@ -124,7 +127,9 @@ fn put_items(full: bool, bytes: &[u8], at: usize, count: usize, out: &mut [u8], 
 // The same of a response that may have no list.
 fn put_list(reply: Reply, bytes: &[u8], at: usize, count: usize, out: &mut [u8], to: usize) -> Ends
     requires { ⌜ ListFits count to (length (now out)) (listField reply (drop at (now bytes))) ⌝ }
-    ensures { λ r. ⌜ (r ≡ ends at (length (now (bytes .entry)) - at) (listStored (now (out .entry)) to (listField reply (drop at (now (bytes .entry)))))) × (now (out .exit) ≡ listStored (now (out .entry)) to (listField reply (drop at (now (bytes .entry)))) .out) ⌝ }
+    ensures { λ r. ⌜ Gives
+        (ends at (length (now (bytes .entry)) - at) (listStored (now (out .entry)) to (listField reply (drop at (now (bytes .entry))))))
+        (listStored (now (out .entry)) to (listField reply (drop at (now (bytes .entry)))) .out) r (now (out .exit)) ⌝ }
 {
     if basex::is_listed(reply) {
         put_items(basex::is_full(reply), bytes, at, count, out, to)
@@ -136,7 +141,7 @@ fn put_list(reply: Reply, bytes: &[u8], at: usize, count: usize, out: &mut [u8],
 // The texts of a response that was judged: those ahead, those of the items, and the error.
 fn store(reply: Reply, bytes: &[u8], items: usize, status: u8, out: &mut [u8])
     requires { ⌜ Fits items status (length (now out)) (fieldsOf reply (now bytes)) ⌝ }
-    ensures { λ _. ⌜ now (out .exit) ≡ left (now (out .entry)) (fieldsOf reply (now (bytes .entry))) ⌝ }
+    ensures { λ _. ⌜ now (out .exit) ≡ outputRead textBytes (now (out .entry)) 0 (fieldsOf reply (now (bytes .entry))) ⌝ }
 {
     let n = basex::strings_ahead(reply);
     let ahead = basex::store_judged_texts(bytes, 0, n, out, 0);
@@ -148,7 +153,8 @@ fn store(reply: Reply, bytes: &[u8], items: usize, status: u8, out: &mut [u8])
 // "with 10 last": the room is compared with all texts together, and nothing is stored before. No
 // text is longer than its bytes, so the sum fits.
 fn read_as(reply: Reply, bytes: &[u8], out: &mut [u8]) -> Replied
-    ensures { λ r. ⌜ (r ≡ answered (length (now (bytes .entry))) (length (now (out .entry))) (fieldsOf reply (now (bytes .entry)))) × (now (out .exit) ≡ left (now (out .entry)) (fieldsOf reply (now (bytes .entry)))) ⌝ }
+    ensures { λ r. ⌜ Gives (answered (length (now (bytes .entry))) (length (now (out .entry))) (fieldsOf reply (now (bytes .entry))))
+        (outputRead textBytes (now (out .entry)) 0 (fieldsOf reply (now (bytes .entry)))) r (now (out .exit)) ⌝ }
 {
     let judged = judge(reply, bytes);
     match judged {
@@ -175,7 +181,8 @@ fn read_as(reply: Reply, bytes: &[u8], out: &mut [u8]) -> Replied
 // The response to a request that starts with the byte `kind`: all of it, its texts one behind the
 // other in front of the output, or a refusal and nothing.
 pub fn read_response(kind: u8, bytes: &[u8], out: &mut [u8]) -> Replied
-    ensures { λ r. ⌜ (r ≡ answered (length (now (bytes .entry))) (length (now (out .entry))) (reading kind (now (bytes .entry)))) × (now (out .exit) ≡ left (now (out .entry)) (reading kind (now (bytes .entry)))) ⌝ }
+    ensures { λ r. ⌜ Gives (answered (length (now (bytes .entry))) (length (now (out .entry))) (reading kind (now (bytes .entry))))
+        (outputRead textBytes (now (out .entry)) 0 (reading kind (now (bytes .entry)))) r (now (out .exit)) ⌝ }
 {
     if bytes.len() == 0 {
         return Replied::Refused(Refusal::MoreBytes);

@@ -4,21 +4,21 @@ ghost use mathlib.Core.Path.{_≡_};
 ghost use Prim.Native.Nat.{_+_, _≤_};
 ghost use lib.Dec.{leb};
 ghost use lib.ListN.{length};
-ghost use Rattle.wire.specs.Bytes.{placed};
+ghost use Rattle.wire.specs.Call.{inRoom, putAt, Gives, Writes};
 ghost use Rattle.basex.specs.Kinds.{findOf};
 ghost use Rattle.basex.specs.Response.{itemBytes};
-ghost use Rattle.basex_response.specs.Writing.{inRoom, leftAt, itemOf, itemWritten, fullOf, endWritten, endBytes};
-ghost use Rattle.basex_response.specs.Spelling.{stringIf, placeIf, zeroIf, itemParts, aheadParts, lastParts, endParts, endAllowed};
+ghost use Rattle.basex_response.specs.Writing.{itemOf, itemWritten, fullOf, endWritten, endBytes};
+ghost use Rattle.basex_response.specs.inner.Spelling.{stringIf, placeIf, zeroIf, itemParts, aheadParts, lastParts, endParts, endAllowed};
 use basex::Found;
 use basex::Reply;
-use basex_string::Spelled;
+use wire::Counted;
 use wire::Refusal;
 
 // How many bytes the text takes as a string.
-fn size_if(taken: bool, text: &[u8]) -> usize
-    ensures { λ r. ⌜ r ≡ length (stringIf taken (now (text .entry))) ⌝ }
+fn size_if(present: bool, text: &[u8]) -> usize
+    ensures { λ r. ⌜ r ≡ length (stringIf present (now (text .entry))) ⌝ }
 {
-    if taken {
+    if present {
         basex_string::string_len(text)
     } else {
         0
@@ -26,10 +26,10 @@ fn size_if(taken: bool, text: &[u8]) -> usize
 }
 
 // Whether the text has a place, or is empty.
-fn has_place(taken: bool, text: &[u8]) -> bool
-    ensures { λ r. ⌜ r ≡ placeIf taken (now (text .entry)) ⌝ }
+fn has_place(present: bool, text: &[u8]) -> bool
+    ensures { λ r. ⌜ r ≡ placeIf present (now (text .entry)) ⌝ }
 {
-    if taken { true } else { text.len() == 0 }
+    if present { true } else { text.len() == 0 }
 }
 
 // Whether n bytes from `at` on fit.
@@ -40,36 +40,37 @@ fn has_room(room: usize, at: usize, n: usize) -> bool
 }
 
 // Four parts from `at` on: how many bytes, or 10. Nothing is summed before it is known to fit.
-fn in_room(room: usize, at: usize, a: usize, b: usize, c: usize, d: usize) -> Spelled
+fn parts_in_room(room: usize, at: usize, a: usize, b: usize, c: usize, d: usize) -> Counted
     ensures { λ r. ⌜ r ≡ inRoom room at (a + b + c + d) ⌝ }
 {
     if !has_room(room, at, a) {
-        return Spelled::Refused(Refusal::NoRoom);
+        return Counted::Refused(Refusal::NoRoom);
     }
     let one = at + a;
     if !has_room(room, one, b) {
-        return Spelled::Refused(Refusal::NoRoom);
+        return Counted::Refused(Refusal::NoRoom);
     }
     let two = one + b;
     if !has_room(room, two, c) {
-        return Spelled::Refused(Refusal::NoRoom);
+        return Counted::Refused(Refusal::NoRoom);
     }
     let three = two + c;
     if !has_room(room, three, d) {
-        return Spelled::Refused(Refusal::NoRoom);
+        return Counted::Refused(Refusal::NoRoom);
     }
-    Spelled::Bytes(a + b + c + d)
+    Counted::Count(a + b + c + d)
 }
 
-// The text as a string; where the next field starts.
-fn put_text(out: &mut [u8], at: usize, taken: bool, text: &[u8]) -> usize
-    requires { ⌜ at + length (stringIf taken (now text)) ≤ length (now out) ⌝ }
-    ensures { λ r. ⌜ (r ≡ at + length (stringIf taken (now (text .entry)))) × (now (out .exit) ≡ placed (now (out .entry)) at (stringIf taken (now (text .entry)))) ⌝ }
+// The text as a string where it is present; where the next field starts.
+fn put_string_if(out: &mut [u8], at: usize, present: bool, text: &[u8]) -> usize
+    requires { ⌜ at + length (stringIf present (now text)) ≤ length (now out) ⌝ }
+    ensures { λ r. ⌜ Gives (at + length (stringIf present (now (text .entry))))
+        (putAt (now (out .entry)) at (stringIf present (now (text .entry)))) r (now (out .exit)) ⌝ }
 {
-    if taken {
+    if present {
         match basex_string::write_string(out, at, text) {
-            Spelled::Refused(_) => at,
-            Spelled::Bytes(n) => at + n,
+            Counted::Refused(_) => at,
+            Counted::Count(n) => at + n,
         }
     } else {
         at
@@ -77,11 +78,11 @@ fn put_text(out: &mut [u8], at: usize, taken: bool, text: &[u8]) -> usize
 }
 
 // The 00 behind the items; where the next field starts.
-fn put_zero(out: &mut [u8], at: usize, taken: bool) -> usize
-    requires { ⌜ at + length (zeroIf taken) ≤ length (now out) ⌝ }
-    ensures { λ r. ⌜ (r ≡ at + length (zeroIf taken)) × (now (out .exit) ≡ placed (now (out .entry)) at (zeroIf taken)) ⌝ }
+fn put_zero(out: &mut [u8], at: usize, present: bool) -> usize
+    requires { ⌜ at + length (zeroIf present) ≤ length (now out) ⌝ }
+    ensures { λ r. ⌜ Gives (at + length (zeroIf present)) (putAt (now (out .entry)) at (zeroIf present)) r (now (out .exit)) ⌝ }
 {
-    if taken {
+    if present {
         wire::put_byte(out, at, 0);
         at + 1
     } else {
@@ -90,41 +91,43 @@ fn put_zero(out: &mut [u8], at: usize, taken: bool) -> usize
 }
 
 // An item that may be written, or 10.
-fn put_item(out: &mut [u8], at: usize, id: u8, uris: bool, uri: &[u8], text: &[u8]) -> Spelled
-    ensures { λ r. ⌜ (r ≡ inRoom (length (now (out .entry))) at (length (itemParts uris id (now (uri .entry)) (now (text .entry))))) × (now (out .exit) ≡ placed (now (out .entry)) at (itemParts uris id (now (uri .entry)) (now (text .entry)))) ⌝ }
+fn put_item(out: &mut [u8], at: usize, id: u8, uris: bool, uri: &[u8], text: &[u8]) -> Counted
+    ensures { λ r. ⌜ Gives (inRoom (length (now (out .entry))) at (length (itemParts uris id (now (uri .entry)) (now (text .entry)))))
+        (putAt (now (out .entry)) at (itemParts uris id (now (uri .entry)) (now (text .entry)))) r (now (out .exit)) ⌝ }
 {
     let first = size_if(uris, uri);
     let second = size_if(true, text);
-    let judged = in_room(out.len(), at, 1, first, second, 0);
-    match judged {
-        Spelled::Refused(r) => Spelled::Refused(r),
-        Spelled::Bytes(n) => {
+    let room = parts_in_room(out.len(), at, 1, first, second, 0);
+    match room {
+        Counted::Refused(r) => Counted::Refused(r),
+        Counted::Count(n) => {
             wire::put_byte(out, at, id);
-            let next = put_text(out, at + 1, uris, uri);
-            let _ = put_text(out, next, true, text);
-            Spelled::Bytes(n)
+            let next = put_string_if(out, at + 1, uris, uri);
+            let _ = put_string_if(out, next, true, text);
+            Counted::Count(n)
         }
     }
 }
 
 // From `at` on an item of the response to a request that starts with the byte `kind`. The URI is
 // empty where the item has none.
-pub fn write_item(out: &mut [u8], at: usize, kind: u8, id: u8, uri: &[u8], text: &[u8]) -> Spelled
-    ensures { λ r. ⌜ (r ≡ itemWritten (length (now (out .entry))) at kind id (now (uri .entry)) (now (text .entry))) × (now (out .exit) ≡ leftAt (now (out .entry)) at (itemBytes (itemOf (fullOf (findOf kind)) id (now (uri .entry)) (now (text .entry)))) r) ⌝ }
+pub fn write_item(out: &mut [u8], at: usize, kind: u8, id: u8, uri: &[u8], text: &[u8]) -> Counted
+    ensures { λ r. ⌜ Writes (itemWritten (length (now (out .entry))) at kind id (now (uri .entry)) (now (text .entry)))
+        (now (out .entry)) at (itemBytes (itemOf (fullOf (findOf kind)) id (now (uri .entry)) (now (text .entry)))) r (now (out .exit)) ⌝ }
 {
     match basex::find(kind) {
-        Found::Unknown => Spelled::Refused(Refusal::UnknownInstruction),
+        Found::Unknown => Counted::Refused(Refusal::UnknownInstruction),
         Found::Known(_, reply) => {
             if !basex::is_listed(reply) {
-                return Spelled::Refused(Refusal::ValueNotAllowed);
+                return Counted::Refused(Refusal::ValueNotAllowed);
             }
             if !basex::id_allowed(id) {
-                return Spelled::Refused(Refusal::ValueNotAllowed);
+                return Counted::Refused(Refusal::ValueNotAllowed);
             }
             let full = basex::is_full(reply);
             let strings = basex::item_strings(full, id);
             if !has_place(strings == 2, uri) {
-                return Spelled::Refused(Refusal::ValueNotAllowed);
+                return Counted::Refused(Refusal::ValueNotAllowed);
             }
             put_item(out, at, id, strings == 2, uri, text)
         }
@@ -165,7 +168,7 @@ fn end_room(
     second: &[u8],
     status: u8,
     error: &[u8],
-) -> Spelled
+) -> Counted
     ensures { λ r. ⌜ r ≡ inRoom room at (length (endParts reply (now (first .entry)) (now (second .entry)) status (now (error .entry)))) ⌝ }
 {
     let ahead = basex::strings_ahead(reply);
@@ -174,26 +177,27 @@ fn end_room(
     let c = status_len(basex::is_listed(reply));
     let behind = basex::strings_behind(reply, status);
     let d = size_if(0 < behind, error);
-    in_room(room, at, a, b, c, d)
+    parts_in_room(room, at, a, b, c, d)
 }
 
 // The first n of two texts; where the next field starts.
 fn put_ahead(out: &mut [u8], at: usize, n: usize, first: &[u8], second: &[u8]) -> usize
     requires { ⌜ at + length (aheadParts n (now first) (now second)) ≤ length (now out) ⌝ }
-    ensures { λ r. ⌜ (r ≡ at + length (aheadParts n (now (first .entry)) (now (second .entry)))) × (now (out .exit) ≡ placed (now (out .entry)) at (aheadParts n (now (first .entry)) (now (second .entry)))) ⌝ }
+    ensures { λ r. ⌜ Gives (at + length (aheadParts n (now (first .entry)) (now (second .entry))))
+        (putAt (now (out .entry)) at (aheadParts n (now (first .entry)) (now (second .entry)))) r (now (out .exit)) ⌝ }
 {
-    let next = put_text(out, at, 0 < n, first);
-    put_text(out, next, 1 < n, second)
+    let next = put_string_if(out, at, 0 < n, first);
+    put_string_if(out, next, 1 < n, second)
 }
 
 // The 00 behind the items, the status, the error.
 fn put_last(out: &mut [u8], at: usize, list: bool, status: u8, n: usize, error: &[u8])
     requires { ⌜ at + length (lastParts list status n (now error)) ≤ length (now out) ⌝ }
-    ensures { λ _. ⌜ now (out .exit) ≡ placed (now (out .entry)) at (lastParts list status n (now (error .entry))) ⌝ }
+    ensures { λ _. ⌜ now (out .exit) ≡ putAt (now (out .entry)) at (lastParts list status n (now (error .entry))) ⌝ }
 {
     let next = put_zero(out, at, list);
     wire::put_byte(out, next, status);
-    let _ = put_text(out, next + 1, 0 < n, error);
+    let _ = put_string_if(out, next + 1, 0 < n, error);
 }
 
 // An end that may be written, or 10.
@@ -205,19 +209,21 @@ fn put_end(
     second: &[u8],
     status: u8,
     error: &[u8],
-) -> Spelled
-    ensures { λ r. ⌜ (r ≡ inRoom (length (now (out .entry))) at (length (endParts reply (now (first .entry)) (now (second .entry)) status (now (error .entry))))) × (now (out .exit) ≡ placed (now (out .entry)) at (endParts reply (now (first .entry)) (now (second .entry)) status (now (error .entry)))) ⌝ }
+) -> Counted
+    ensures { λ r. ⌜ Gives
+        (inRoom (length (now (out .entry))) at (length (endParts reply (now (first .entry)) (now (second .entry)) status (now (error .entry)))))
+        (putAt (now (out .entry)) at (endParts reply (now (first .entry)) (now (second .entry)) status (now (error .entry)))) r (now (out .exit)) ⌝ }
 {
-    let judged = end_room(out.len(), at, reply, first, second, status, error);
-    match judged {
-        Spelled::Refused(r) => Spelled::Refused(r),
-        Spelled::Bytes(n) => {
+    let room = end_room(out.len(), at, reply, first, second, status, error);
+    match room {
+        Counted::Refused(r) => Counted::Refused(r),
+        Counted::Count(n) => {
             let ahead = basex::strings_ahead(reply);
             let list = basex::is_listed(reply);
             let behind = basex::strings_behind(reply, status);
             let next = put_ahead(out, at, ahead, first, second);
             put_last(out, next, list, status, behind, error);
-            Spelled::Bytes(n)
+            Counted::Count(n)
         }
     }
 }
@@ -232,14 +238,15 @@ pub fn write_end(
     second: &[u8],
     status: u8,
     error: &[u8],
-) -> Spelled
-    ensures { λ r. ⌜ (r ≡ endWritten (length (now (out .entry))) at kind (now (first .entry)) (now (second .entry)) status (now (error .entry))) × (now (out .exit) ≡ leftAt (now (out .entry)) at (endBytes (findOf kind) (now (first .entry)) (now (second .entry)) status (now (error .entry))) r) ⌝ }
+) -> Counted
+    ensures { λ r. ⌜ Writes (endWritten (length (now (out .entry))) at kind (now (first .entry)) (now (second .entry)) status (now (error .entry)))
+        (now (out .entry)) at (endBytes (findOf kind) (now (first .entry)) (now (second .entry)) status (now (error .entry))) r (now (out .exit)) ⌝ }
 {
     match basex::find(kind) {
-        Found::Unknown => Spelled::Refused(Refusal::UnknownInstruction),
+        Found::Unknown => Counted::Refused(Refusal::UnknownInstruction),
         Found::Known(_, reply) => {
             if !end_allowed(reply, first, second, status, error) {
-                return Spelled::Refused(Refusal::ValueNotAllowed);
+                return Counted::Refused(Refusal::ValueNotAllowed);
             }
             put_end(out, at, reply, first, second, status, error)
         }

@@ -7,10 +7,10 @@ use native.Mathlib.Omega.{arith}
 use lib.Dec.{eqb}
 use lib.ListN.{length, drop, getD, set}
 use borrow.Author.Tests.{eqb-true}
-use Rattle.wire.specs.Bytes.{if, over}
-use Rattle.wire.proofs.Over.{Ahead}
+use Rattle.wire.specs.Bytes.{if, splice}
+use Rattle.wire.proofs.Splices.{Ahead}
 use Rattle.basex_string.specs.Scan.{scan, reading}
-use Rattle.basex_string.specs.Answers.{textOf}
+use Rattle.basex_string.specs.inner.Storing.{textRead}
 use Rattle.basex_string.proofs.Steps.{ahead-from, ahead-one}
 use Rattle.basex_string.proofs.Parts.{ahead-set}
 use Rattle.basex_string.proofs.Scans.{opening, escape, text-left, text-byte}
@@ -20,18 +20,18 @@ pub record Midst (s : List ℕ) (from most : ℕ) (t d : List ℕ) (to n i : ℕ
   pub past : from ≤ i
   pub goes : i ≤ from + 2 * n + if e 1 0
   pub more : n + if e 1 0 ≤ most
-  pub adds : n + length (textOf (scan e (drop i s))) ≡ most
-  pub back : e ≡ true → textOf (reading (drop (i - 1) s)) ≡ textOf (scan e (drop i s))
-  pub ahead : Ahead t d (to + n) (textOf (scan e (drop i s)))
+  pub adds : n + length (textRead (scan e (drop i s))) ≡ most
+  pub back : e ≡ true → textRead (reading (drop (i - 1) s)) ≡ textRead (scan e (drop i s))
+  pub ahead : Ahead t d (to + n) (textRead (scan e (drop i s)))
 
 pub one-at-most : (e : Bool) → if e 1 0 ≤ 1
 one-at-most true = omega arith
 one-at-most false = omega arith
 
-pub midst-start : (s : List ℕ) (from most : ℕ) (d : List ℕ) (to : ℕ) → most ≡ length (textOf (reading (drop from s))) → to + most ≤ length d
-    → Midst s from most (over d to (textOf (reading (drop from s)))) d to 0 from false
+pub midst-start : (s : List ℕ) (from most : ℕ) (d : List ℕ) (to : ℕ) → most ≡ length (textRead (reading (drop from s))) → to + most ≤ length d
+    → Midst s from most (splice d to (textRead (reading (drop from s)))) d to 0 from false
 midst-start s from most d to e f =
-    record { past = omega arith; goes = omega arith; more = omega arith; adds = omega arith; back = (λ (p : false ≡ true). cc); ahead = ahead-from d to (textOf (reading (drop from s))) (omega arith) }
+    record { past = omega arith; goes = omega arith; more = omega arith; adds = omega arith; back = (λ (p : false ≡ true). cc); ahead = ahead-from d to (textRead (reading (drop from s))) (omega arith) }
 
 module _ {s : List ℕ} {from most : ℕ} {t d : List ℕ} {to n i : ℕ} {e : Bool} (m : Midst s from most t d to n i e) where
   -- it ends where no text is left
@@ -43,11 +43,11 @@ module _ {s : List ℕ} {from most : ℕ} {t d : List ℕ} {to n i : ℕ} {e : B
       by false k = refl
 
   -- it may stop ahead of what is left, at an FF too
-  pub midst-stop : (k : ℕ) → textOf (reading (drop k s)) ≡ textOf (scan e (drop i s)) → (n + length (textOf (reading (drop k s))) ≡ most) × (over d (to + n) (textOf (reading (drop k s))) ≡ t)
-  midst-stop k p = let l = ap length p in let a = m .adds in (omega arith, ap (over d (to + n)) p ∙ m .ahead .makes)
+  pub midst-stop : (k : ℕ) → textRead (reading (drop k s)) ≡ textRead (scan e (drop i s)) → (n + length (textRead (reading (drop k s))) ≡ most) × (splice d (to + n) (textRead (reading (drop k s))) ≡ t)
+  midst-stop k p = let l = ap length p in let a = m .adds in (omega arith, ap (splice d (to + n)) p ∙ m .ahead .makes)
 
   module _ (h : n < most) where
-    left : 0 < length (textOf (scan e (drop i s)))
+    left : 0 < length (textRead (scan e (drop i s)))
     left = let a = m .adds in omega arith
 
     pub midst-here : i < length s
@@ -59,10 +59,10 @@ module _ {s : List ℕ} {from most : ℕ} {t d : List ℕ} {to n i : ℕ} {e : B
         let b = m .past in
         let a = m .adds in
         let z = ap {B = ℕ} (λ (f : Bool). if f 1 0) p in
-        let x = ap (λ (f : Bool). textOf (scan f (drop i s))) p ∙ ap textOf (escape s i midst-here q) in
+        let x = ap (λ (f : Bool). textRead (scan f (drop i s))) p ∙ ap textRead (escape s i midst-here q) in
         let l = ap length x in
         let j : i + 1 - 1 ≡ i = omega arith in
-        record { past = omega arith; goes = omega arith; more = omega arith; adds = omega arith; back = (λ (w : true ≡ true). ap (λ (k : ℕ). textOf (reading (drop k s))) j ∙ ap textOf (escape s i midst-here q)); ahead = subst (Ahead t (set d (to + n) (getD s i 0)) (to + n)) x (ahead-set (getD s i 0) (m .ahead) left) }
+        record { past = omega arith; goes = omega arith; more = omega arith; adds = omega arith; back = (λ (w : true ≡ true). ap (λ (k : ℕ). textRead (reading (drop k s))) j ∙ ap textRead (escape s i midst-here q)); ahead = subst (Ahead t (set d (to + n) (getD s i 0)) (to + n)) x (ahead-set (getD s i 0) (m .ahead) left) }
 
     byte-step : opening (getD s i 0) e ≡ false → Midst s from most t (set d (to + n) (getD s i 0)) to (n + 1) (i + 1) false
     byte-step o =

@@ -15,7 +15,8 @@ use Rattle.wire.specs.declared.Refusal.the-variants.{MoreBytes, BadEscape}
 use Rattle.basex_string.specs.Strings.{special, escaped, string}
 use Rattle.wire.specs.Fields.{Got}
 use Rattle.basex_string.specs.Scan.{push, scan, reading}
-use Rattle.basex_string.specs.Answers.{located, textOf}
+use Rattle.basex_string.specs.Answers.{located}
+use Rattle.basex_string.specs.inner.Storing.{textRead}
 use Rattle.basex_string.specs.declared.StringAt.the-variants as string-at
 use Rattle.basex_string.proofs.Steps.{string-length, string-clean}
 
@@ -103,7 +104,7 @@ next-field b at s rest e =
 -- a string that was judged: where its bytes end, and its text where nothing is escaped
 module _ (b : List ℕ) (at len next : ℕ) where
   located-got : (x : Got (List ℕ)) → reading (drop at b) ≡ x → located (length b) x ≡ string-at.At len next
-      → (at < next) × (next ≤ length b) × (next - 1 - at ≡ len → take len (drop at b) ≡ textOf x)
+      → (at < next) × (next ≤ length b) × (next - 1 - at ≡ len → take len (drop at b) ≡ textRead x)
   located-got (Got.refused r) e p = let z : _≡_ {A = ℕ} 0 1 = cc in absurd (omega arith)
   located-got (Got.got s rest) e p =
       let n : length b - length rest ≡ next = cc in
@@ -116,7 +117,7 @@ module _ (b : List ℕ) (at len next : ℕ) where
     pub located-next : (at < next) × (next ≤ length b)
     located-next = let g = located-got (reading (drop at b)) refl p in (g .0, g .1)
 
-    pub located-plain : next - 1 - at ≡ len → take (next - 1 - at) (drop at b) ≡ textOf (reading (drop at b))
+    pub located-plain : next - 1 - at ≡ len → take (next - 1 - at) (drop at b) ≡ textRead (reading (drop at b))
     located-plain q = rw q (located-got (reading (drop at b)) refl p .2 q)
 
 -- one encoding for each string, and no string's is the start of another's

@@ -7,3 +7,4 @@ pub mod Few
 pub mod Laws
 pub mod Copies
 pub mod Taking
+pub mod Room

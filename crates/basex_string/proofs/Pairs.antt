@@ -11,38 +11,28 @@ use borrow.Author.Tests.{eq-eqb, ne-eqb, eqb-true}
 use Rattle.wire.specs.Bytes.{if}
 use Rattle.basex_string.specs.Strings.{special}
 use Rattle.basex_string.specs.Scan.{push, scan, reading}
-use Rattle.basex_string.specs.Answers.{pairs, textOf}
+use Rattle.basex_string.specs.inner.Runs.{pairs}
+use Rattle.basex_string.specs.inner.Storing.{textRead}
 use Rattle.basex_string.proofs.Steps.{here}
 use Rattle.basex_string.proofs.Scans.{seen, seen-push, text-pair}
 
 -- the text that is left behind n pairs from `from` on
 abbrev pub behind : List ℕ → ℕ → ℕ → List ℕ
-behind s from n = textOf (reading (drop (from + 2 * n) s))
+behind s from n = textRead (reading (drop (from + 2 * n) s))
 
-pub behind-none : (s : List ℕ) (from : ℕ) → behind s from 0 ≡ textOf (reading (drop from s))
-behind-none s from = let m : from + 2 * 0 ≡ from = omega arith in ap (λ (k : ℕ). textOf (reading (drop k s))) m
+pub behind-none : (s : List ℕ) (from : ℕ) → behind s from 0 ≡ textRead (reading (drop from s))
+behind-none s from = let m : from + 2 * 0 ≡ from = omega arith in ap (λ (k : ℕ). textRead (reading (drop k s))) m
 
 -- `put_pairs` goes on with the pair number n
 pub behind-next : (s : List ℕ) (from n : ℕ) → 0 < length (behind s from n) → getD s (from + 2 * n) 0 ≡ 255 → behind s from n ≡ getD s (from + 2 * n + 1) 0 ∷ behind s from (n + 1)
 behind-next s from n h f =
     let e : from + 2 * n + 2 ≡ from + 2 * (n + 1) = omega arith in
-    text-pair s (from + 2 * n) h f ∙ ap (λ (k : ℕ). getD s (from + 2 * n + 1) 0 ∷ textOf (reading (drop k s))) e
+    text-pair s (from + 2 * n) h f ∙ ap (λ (k : ℕ). getD s (from + 2 * n + 1) 0 ∷ textRead (reading (drop k s))) e
 
 -- where it stopped is behind the first pair
 pub behind-first : (s : List ℕ) (from n : ℕ) → getD s from 0 ≡ 255 → (getD s (from + 2 * n) 0 ≡ 255 → ⊥) → 0 < n
 behind-first s from zero e f = let m : from + 2 * 0 ≡ from = omega arith in absurd (f (ap (λ (k : ℕ). getD s k 0) m ∙ e))
 behind-first s from (suc n) e f = omega arith
-
-pub pairs-fit : (l : List ℕ) → 2 * pairs l ≤ length l
-unfolding pairs
-pairs-fit [] = omega arith
-pairs-fit (a ∷ []) = omega arith
-pairs-fit (a ∷ b ∷ l) = by (eqb a 255) (special b) (pairs-fit l)
-  where
-    by : (f t : Bool) → 2 * pairs l ≤ length l → 2 * if f (if t (suc (pairs l)) 0) 0 ≤ suc (suc (length l))
-    by false t h = omega arith
-    by true false h = omega arith
-    by true true h = omega arith
 
 -- a pair at i
 pub pairs-more : (s : List ℕ) (i : ℕ) → i + 1 < length s → getD s i 0 ≡ 255 → special (getD s (i + 1) 0) ≡ true → pairs (drop i s) ≡ 1 + pairs (drop (i + 2) s)

@@ -6,8 +6,8 @@ use Prim.Native.Nat.{ℕ, _+_, _-_, _≤_, _<_}
 use native.Mathlib.Omega.{arith}
 use lib.ListN.{length, take, drop, set, length-append, length-set, length-take, take-append-drop}
 use lib.Seq.{take-at, drop-at, drop-drop, length-take-le}
-use Rattle.wire.specs.Bytes.{if, over}
-use Rattle.wire.proofs.Over.{Ahead, over-over, over-sets, length-over}
+use Rattle.wire.specs.Bytes.{if, splice}
+use Rattle.wire.proofs.Splices.{Ahead, splice-splice, splice-sets, length-splice}
 use Rattle.basex_string.specs.Strings.{special, string}
 use Rattle.basex_string.proofs.Steps.{string-length, specials-split}
 
@@ -30,8 +30,8 @@ unfolding string
 string-alone x = ap string (sym (append-nil x)) ∙ string-spelt x []
 
 -- a write, and a longer one to the same place
-over-same : (d : List ℕ) (k : ℕ) (a b : List ℕ) → length a ≤ length b → k + length b ≤ length d → over (over d k a) k b ≡ over d k b
-unfolding over
+over-same : (d : List ℕ) (k : ℕ) (a b : List ℕ) → length a ≤ length b → k + length b ≤ length d → splice (splice d k a) k b ≡ splice d k b
+unfolding splice
 over-same d k a b h f =
     let p : List ℕ = take k d ++ a in
     let l : length (take k d) ≡ k = length-take-le k d (omega arith) in
@@ -46,7 +46,7 @@ pub ahead-set : {t d text : List ℕ} {at : ℕ} (x : ℕ) → Ahead t d at text
 ahead-set {t} {d} {text} {at} x a h =
     let f = a .fits in
     record {
-      makes = ap (λ (l : List ℕ). over l at text) (over-sets d at (x ∷ []) (omega arith)) ∙ over-same d at (x ∷ []) text h (omega arith) ∙ a .makes;
+      makes = ap (λ (l : List ℕ). splice l at text) (splice-sets d at (x ∷ []) (omega arith)) ∙ over-same d at (x ∷ []) text h (omega arith) ∙ a .makes;
       fits = simp length-set f;
     }
 
@@ -59,24 +59,24 @@ string-part m s =
     omega arith
 
 -- x and a 00 were written, and y is ahead from the 00 on
-ahead-end : {t d e : List ℕ} {to : ℕ} (x y : List ℕ) (r : ℕ) → Ahead t d to (x ++ y) → 1 ≤ length y → e ≡ over d to (x ++ 0 ∷ []) → r ≡ to + length x → Ahead t e r y
+ahead-end : {t d e : List ℕ} {to : ℕ} (x y : List ℕ) (r : ℕ) → Ahead t d to (x ++ y) → 1 ≤ length y → e ≡ splice d to (x ++ 0 ∷ []) → r ≡ to + length x → Ahead t e r y
 ahead-end {t} {d} {e} {to} x y r a h p q =
     let l = length-append x y in
     let f = a .fits in
     let z = length-append x (0 ∷ []) in
-    let n : length e ≡ length d = ap length p ∙ length-over d to (x ++ 0 ∷ []) (omega arith) in
-    let b : length (over d to x) ≡ length d = length-over d to x (omega arith) in
+    let n : length e ≡ length d = ap length p ∙ length-splice d to (x ++ 0 ∷ []) (omega arith) in
+    let b : length (splice d to x) ≡ length d = length-splice d to x (omega arith) in
     let k : ℕ = to + length x in
     record {
       makes =
-          ap (λ (m : List ℕ). over m r y) p ∙ ap (λ (m : ℕ). over (over d to (x ++ 0 ∷ [])) m y) q
-          ∙ ap (λ (m : List ℕ). over m k y) (sym (over-over d to x (0 ∷ []) (omega arith)))
-          ∙ over-same (over d to x) k (0 ∷ []) y h (omega arith) ∙ over-over d to x y (omega arith) ∙ a .makes;
+          ap (λ (m : List ℕ). splice m r y) p ∙ ap (λ (m : ℕ). splice (splice d to (x ++ 0 ∷ [])) m y) q
+          ∙ ap (λ (m : List ℕ). splice m k y) (sym (splice-splice d to x (0 ∷ []) (omega arith)))
+          ∙ over-same (splice d to x) k (0 ∷ []) y h (omega arith) ∙ splice-splice d to x y (omega arith) ∙ a .makes;
       fits = omega arith;
     }
 
 -- the part from i to `end` was written, and its 00 at r
-pub ahead-part : {t d e : List ℕ} {to : ℕ} (s : List ℕ) (i end r : ℕ) → i ≤ end → Ahead t d to (string (drop i s)) → e ≡ over d to (string (take (end - i) (drop i s)))
+pub ahead-part : {t d e : List ℕ} {to : ℕ} (s : List ℕ) (i end r : ℕ) → i ≤ end → Ahead t d to (string (drop i s)) → e ≡ splice d to (string (take (end - i) (drop i s)))
     → r + 1 ≡ to + length (string (take (end - i) (drop i s))) → Ahead t e r (string (drop end s))
 ahead-part {t} {d} {e} {to} s i end r h a p q =
     let x = take (end - i) (drop i s) in
@@ -88,4 +88,4 @@ ahead-part {t} {d} {e} {to} s i end r h a p q =
     let z = string-alone x in
     let l = ap length z ∙ length-append (spelt x) (0 ∷ []) in
     let n = string-length (drop end s) in
-    ahead-end (spelt x) y r (subst (Ahead t d to) w a) (omega arith) (p ∙ ap (over d to) z) (omega arith)
+    ahead-end (spelt x) y r (subst (Ahead t d to) w a) (omega arith) (p ∙ ap (splice d to) z) (omega arith)

@@ -12,7 +12,8 @@ use Rattle.wire.specs.Bytes.{if}
 use Rattle.basex_string.specs.Strings.{special, string}
 use Rattle.wire.specs.Fields.{Got}
 use Rattle.basex_string.specs.Scan.{push, scan, reading}
-use Rattle.basex_string.specs.Answers.{run, textOf}
+use Rattle.basex_string.specs.inner.Runs.{run}
+use Rattle.basex_string.specs.inner.Storing.{textRead}
 use Rattle.basex_string.specs.declared.StringAt.the-variants as string-at
 use Rattle.basex_string.proofs.Steps.{here}
 use Rattle.basex_string.proofs.Scans.{seen}
@@ -162,7 +163,7 @@ seen-pushes n len r (Got.got s rest) =
     let e : len + length (r ++ s) ≡ len + length r + length s = omega arith in
     ap (λ (m : ℕ). string-at.At m (n - length rest)) e
 
-text-pushes : (r : List ℕ) (x : Got (List ℕ)) → 0 < length (textOf (pushes r x)) → textOf (pushes r x) ≡ r ++ textOf x
+text-pushes : (r : List ℕ) (x : Got (List ℕ)) → 0 < length (textRead (pushes r x)) → textRead (pushes r x) ≡ r ++ textRead x
 text-pushes r (Got.refused q) h = absurd (omega arith)
 text-pushes r (Got.got s rest) h = refl
 
@@ -189,8 +190,8 @@ module _ (s : List ℕ) (i end : ℕ) (h : i ≤ end) (k : end ≤ i + run (drop
   pub run-seen : (n len : ℕ) → i ≤ length s → seen n len (reading (drop i s)) ≡ seen n (len + (end - i)) (reading (drop end s))
   run-seen n len f = ap (seen n len) run-reading ∙ seen-pushes n len (take (end - i) (drop i s)) (reading (drop end s)) ∙ ap (λ (m : ℕ). seen n (len + m) (reading (drop end s))) (run-size f)
 
-  pub run-text : 0 < length (textOf (reading (drop i s))) → textOf (reading (drop i s)) ≡ take (end - i) (drop i s) ++ textOf (reading (drop end s))
-  run-text t = ap textOf run-reading ∙ text-pushes (take (end - i) (drop i s)) (reading (drop end s)) (subst (λ (x : Got (List ℕ)). 0 < length (textOf x)) run-reading t)
+  pub run-text : 0 < length (textRead (reading (drop i s))) → textRead (reading (drop i s)) ≡ take (end - i) (drop i s) ++ textRead (reading (drop end s))
+  run-text t = ap textRead run-reading ∙ text-pushes (take (end - i) (drop i s)) (reading (drop end s)) (subst (λ (x : Got (List ℕ)). 0 < length (textRead x)) run-reading t)
 
-  pub run-text-size : i ≤ length s → 0 < length (textOf (reading (drop i s))) → length (textOf (reading (drop i s))) ≡ (end - i) + length (textOf (reading (drop end s)))
-  run-text-size f t = ap length (run-text t) ∙ length-append (take (end - i) (drop i s)) (textOf (reading (drop end s))) ∙ ap (λ (n : ℕ). n + length (textOf (reading (drop end s)))) (run-size f)
+  pub run-text-size : i ≤ length s → 0 < length (textRead (reading (drop i s))) → length (textRead (reading (drop i s))) ≡ (end - i) + length (textRead (reading (drop end s)))
+  run-text-size f t = ap length (run-text t) ∙ length-append (take (end - i) (drop i s)) (textRead (reading (drop end s))) ∙ ap (λ (n : ℕ). n + length (textRead (reading (drop end s)))) (run-size f)

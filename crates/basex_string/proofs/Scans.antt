@@ -7,13 +7,18 @@ use native.Mathlib.Omega.{arith}
 use lib.Dec.{eqb, ltb}
 use lib.ListN.{length, drop, getD, drop-of-length-le, length-drop}
 use borrow.Author.Tests.{lt-ltb, le-ltb, eq-eqb, ltb-true, ltb-false}
-use Rattle.wire.specs.Bytes.{if, placed}
+use Rattle.wire.specs.Bytes.{if, splice}
+use Rattle.wire.specs.Call.{inRoom, Gives}
+use Rattle.wire.specs.declared.Counted.the-variants.{Count, Refused}
 use Rattle.wire.specs.declared.Refusal.{Refusal}
-use Rattle.wire.specs.declared.Refusal.the-variants.{MoreBytes, NoRoom, BadEscape}
+use Rattle.wire.specs.declared.Refusal.the-variants.{MoreBytes, BadEscape}
+use Rattle.wire.proofs.Call.{refused-short, counted-there}
+use Rattle.wire.proofs.Splices.{putAt-fits, putAt-not}
 use Rattle.basex_string.specs.Strings.{special}
 use Rattle.wire.specs.Fields.{Got}
 use Rattle.basex_string.specs.Scan.{push, scan, reading}
-use Rattle.basex_string.specs.Answers.{located, decoded, left, textOf}
+use Rattle.basex_string.specs.Answers.{located, decoded, outputRead}
+use Rattle.basex_string.specs.inner.Storing.{textRead}
 use Rattle.basex_string.specs.declared.StringAt.{StringAt}
 use Rattle.basex_string.specs.declared.StringAt.the-variants as string-at
 use Rattle.basex_string.proofs.Steps.{here}
@@ -68,7 +73,7 @@ module _ (s : List ℕ) (i : ℕ) (h : i < length s) where
     unfolding scan
     reading-bad g = escape e ∙ ap (scan true) two ∙ rw g
 
-text-push : (b : ℕ) (x : Got (List ℕ)) → 0 < length (textOf (push b x)) → textOf (push b x) ≡ b ∷ textOf x
+text-push : (b : ℕ) (x : Got (List ℕ)) → 0 < length (textRead (push b x)) → textRead (push b x) ≡ b ∷ textRead x
 text-push b (Got.refused r) h = absurd (omega arith)
 text-push b (Got.got s rest) h = refl
 
@@ -77,11 +82,11 @@ abbrev pub opening : ℕ → Bool → Bool
 opening b e = if (eqb b 255) (not e) false
 
 -- a byte that is none stands in the text
-text-cons : (e : Bool) (b : ℕ) (l : List ℕ) → 0 < length (textOf (scan e (b ∷ l))) → opening b e ≡ false → textOf (scan e (b ∷ l)) ≡ b ∷ textOf (reading l)
+text-cons : (e : Bool) (b : ℕ) (l : List ℕ) → 0 < length (textRead (scan e (b ∷ l))) → opening b e ≡ false → textRead (scan e (b ∷ l)) ≡ b ∷ textRead (reading l)
 unfolding scan
 text-cons true b l = by (special b)
   where
-    by : (t : Bool) → 0 < length (textOf (if t (push b (reading l)) (Got.refused BadEscape))) → opening b true ≡ false → textOf (if t (push b (reading l)) (Got.refused BadEscape)) ≡ b ∷ textOf (reading l)
+    by : (t : Bool) → 0 < length (textRead (if t (push b (reading l)) (Got.refused BadEscape))) → opening b true ≡ false → textRead (if t (push b (reading l)) (Got.refused BadEscape)) ≡ b ∷ textRead (reading l)
     by true h o = text-push b (reading l) h
     by false h o = absurd (omega arith)
 text-cons false b l = by (eqb b 0) (eqb b 255)
@@ -89,27 +94,27 @@ text-cons false b l = by (eqb b 0) (eqb b 255)
     at : Bool → Bool → Got (List ℕ)
     at z f = if z (Got.got [] l) (if f (scan true l) (push b (reading l)))
 
-    by : (z f : Bool) → 0 < length (textOf (at z f)) → if f true false ≡ false → textOf (at z f) ≡ b ∷ textOf (reading l)
+    by : (z f : Bool) → 0 < length (textRead (at z f)) → if f true false ≡ false → textRead (at z f) ≡ b ∷ textRead (reading l)
     by true f h o = absurd (omega arith)
     by false true h o = let w : true ≡ false = o in cc
     by false false h o = text-push b (reading l) h
 
-module _ (e : Bool) (s : List ℕ) (i : ℕ) (h : 0 < length (textOf (scan e (drop i s)))) where
+module _ (e : Bool) (s : List ℕ) (i : ℕ) (h : 0 < length (textRead (scan e (drop i s)))) where
   pub text-left : i < length s
   unfolding scan
   text-left = by (ltb i (length s)) refl
     where
       by : (t : Bool) → ltb i (length s) ≡ t → i < length s
       by true p = ltb-true _ _ p
-      by false p = let z = ap (λ (l : List ℕ). length (textOf (scan e l))) (drop-of-length-le s (ltb-false _ _ p)) in omega arith
+      by false p = let z = ap (λ (l : List ℕ). length (textRead (scan e l))) (drop-of-length-le s (ltb-false _ _ p)) in omega arith
 
-  pub text-byte : opening (getD s i 0) e ≡ false → textOf (scan e (drop i s)) ≡ getD s i 0 ∷ textOf (reading (drop (i + 1) s))
+  pub text-byte : opening (getD s i 0) e ≡ false → textRead (scan e (drop i s)) ≡ getD s i 0 ∷ textRead (reading (drop (i + 1) s))
   text-byte o =
       let q = here s i text-left in
-      ap (λ (l : List ℕ). textOf (scan e l)) q ∙ text-cons e (getD s i 0) (drop (i + 1) s) (subst (λ (l : List ℕ). 0 < length (textOf (scan e l))) q h) o
+      ap (λ (l : List ℕ). textRead (scan e l)) q ∙ text-cons e (getD s i 0) (drop (i + 1) s) (subst (λ (l : List ℕ). 0 < length (textRead (scan e l))) q h) o
 
 -- where text is left, a byte of it stands at i, or an FF and the byte that it escapes
-module _ (s : List ℕ) (i : ℕ) (h : 0 < length (textOf (reading (drop i s)))) where
+module _ (s : List ℕ) (i : ℕ) (h : 0 < length (textRead (reading (drop i s)))) where
   pub text-here : i < length s
   text-here = text-left false s i h
 
@@ -119,61 +124,44 @@ module _ (s : List ℕ) (i : ℕ) (h : 0 < length (textOf (reading (drop i s))))
       where
         by : (t : Bool) → ltb (i + 1) (length s) ≡ t → i + 1 < length s
         by true e = ltb-true _ _ e
-        by false e = let z = ap (λ (x : Got (List ℕ)). length (textOf x)) (reading-cut s i text-here f (ltb-false _ _ e)) in omega arith
+        by false e = let z = ap (λ (x : Got (List ℕ)). length (textRead x)) (reading-cut s i text-here f (ltb-false _ _ e)) in omega arith
 
-    pub text-pair : textOf (reading (drop i s)) ≡ getD s (i + 1) 0 ∷ textOf (reading (drop (i + 2) s))
+    pub text-pair : textRead (reading (drop i s)) ≡ getD s (i + 1) 0 ∷ textRead (reading (drop (i + 2) s))
     text-pair = by (special (getD s (i + 1) 0)) refl
       where
-        by : (t : Bool) → special (getD s (i + 1) 0) ≡ t → textOf (reading (drop i s)) ≡ getD s (i + 1) 0 ∷ textOf (reading (drop (i + 2) s))
+        by : (t : Bool) → special (getD s (i + 1) 0) ≡ t → textRead (reading (drop i s)) ≡ getD s (i + 1) 0 ∷ textRead (reading (drop (i + 2) s))
         by true e =
             let r = reading-pair s i text-here f text-two e in
-            ap textOf r ∙ text-push (getD s (i + 1) 0) (reading (drop (i + 2) s)) (subst (λ (x : Got (List ℕ)). 0 < length (textOf x)) r h)
-        by false e = let z = ap (λ (x : Got (List ℕ)). length (textOf x)) (reading-bad s i text-here f text-two e) in absurd (omega arith)
+            ap textRead r ∙ text-push (getD s (i + 1) 0) (reading (drop (i + 2) s)) (subst (λ (x : Got (List ℕ)). 0 < length (textRead x)) r h)
+        by false e = let z = ap (λ (x : Got (List ℕ)). length (textRead x)) (reading-bad s i text-here f text-two e) in absurd (omega arith)
 
 -- what judging a string answered decides what decoding it answers and leaves
-module _ (n room to : ℕ) (out : List ℕ) (x : Got (List ℕ)) where
-  pub refused-decoded : {r : Refusal} → located n x ≡ string-at.Refused r → string-at.Refused r ≡ decoded n room to x
-  refused-decoded {r} = by x
-    where
-      by : (x : Got (List ℕ)) → located n x ≡ string-at.Refused r → string-at.Refused r ≡ decoded n room to x
-      by (Got.refused q) e = sym e
-      by (Got.got s rest) e = cc
+module _ (n to : ℕ) (out : List ℕ) where
+  -- a contract of decoding
+  abbrev pub Decodes : Got (List ℕ) → StringAt → List ℕ → Type 0
+  Decodes x = Gives (decoded n (length out) to x) (outputRead (λ s. s) out to x)
 
-  pub refused-left : {r : Refusal} → located n x ≡ string-at.Refused r → out ≡ left out to x
-  refused-left {r} = by x
-    where
-      by : (x : Got (List ℕ)) → located n x ≡ string-at.Refused r → out ≡ left out to x
-      by (Got.refused q) e = refl
-      by (Got.got s rest) e = cc
+  pub refused-decoded : {r : Refusal} (x : Got (List ℕ)) → located n x ≡ string-at.Refused r → Decodes x (string-at.Refused r) out
+  refused-decoded (Got.refused q) e = record { answers = sym e; leaves = refl }
+  refused-decoded (Got.got s rest) e = let z : _≡_ {A = ℕ} 0 1 = cc in absurd (omega arith)
 
-  pub located-length : {len next : ℕ} → located n x ≡ string-at.At len next → len ≡ length (textOf x)
-  located-length {len} {next} = by x
-    where
-      by : (x : Got (List ℕ)) → located n x ≡ string-at.At len next → len ≡ length (textOf x)
-      by (Got.refused q) e = cc
-      by (Got.got s rest) e = cc
+  pub cramped-decoded : {len next : ℕ} {r : Refusal} (x : Got (List ℕ)) → located n x ≡ string-at.At len next → inRoom (length out) to len ≡ Refused r
+      → Decodes x (string-at.Refused r) out
+  cramped-decoded (Got.refused q) e h = let z : _≡_ {A = ℕ} 0 1 = cc in absurd (omega arith)
+  cramped-decoded {len} {next} {r} (Got.got s rest) e h =
+      let a : length s ≡ len = cc in
+      let z = refused-short (length out) to len r h in
+      let l = z .1 in
+      record { answers = rw (lt-ltb (length out) (to + length s) (omega arith)) (ap string-at.Refused (z .0)); leaves = sym (putAt-not out to s (omega arith)) }
 
-  pub located-fits : {len next : ℕ} → located n x ≡ string-at.At len next → to + len ≤ room → string-at.At len next ≡ decoded n room to x
-  located-fits {len} {next} = by x
-    where
-      by : (x : Got (List ℕ)) → located n x ≡ string-at.At len next → to + len ≤ room → string-at.At len next ≡ decoded n room to x
-      by (Got.refused q) e h = cc
-      by (Got.got s rest) e h =
-          let a : length s ≡ len = cc in
-          rw (le-ltb room (to + length s) (omega arith)) (sym e)
+  pub stored-decoded : {len next m : ℕ} {after : List ℕ} (x : Got (List ℕ)) → located n x ≡ string-at.At len next → inRoom (length out) to len ≡ Count m
+      → after ≡ splice out to (textRead x) → Decodes x (string-at.At len next) after
+  stored-decoded (Got.refused q) e h p = let z : _≡_ {A = ℕ} 0 1 = cc in absurd (omega arith)
+  stored-decoded {len} {next} {m} (Got.got s rest) e h p =
+      let a : length s ≡ len = cc in
+      let l = counted-there (length out) to len m h .1 in
+      record { answers = rw (le-ltb (length out) (to + length s) (omega arith)) (sym e); leaves = p ∙ sym (putAt-fits out to s (omega arith)) }
 
-  pub located-not : {len next : ℕ} → located n x ≡ string-at.At len next → room < to + len → string-at.Refused NoRoom ≡ decoded n room to x
-  located-not {len} {next} = by x
-    where
-      by : (x : Got (List ℕ)) → located n x ≡ string-at.At len next → room < to + len → string-at.Refused NoRoom ≡ decoded n room to x
-      by (Got.refused q) e h = cc
-      by (Got.got s rest) e h =
-          let a : length s ≡ len = cc in
-          rw (lt-ltb room (to + length s) (omega arith))
-
-  pub located-left : {len next : ℕ} → located n x ≡ string-at.At len next → left out to x ≡ placed out to (textOf x)
-  located-left {len} {next} = by x
-    where
-      by : (x : Got (List ℕ)) → located n x ≡ string-at.At len next → left out to x ≡ placed out to (textOf x)
-      by (Got.refused q) e = cc
-      by (Got.got s rest) e = refl
+pub located-length : (n : ℕ) {len next : ℕ} (x : Got (List ℕ)) → located n x ≡ string-at.At len next → len ≡ length (textRead x)
+located-length n (Got.refused q) e = cc
+located-length n (Got.got s rest) e = cc

@@ -7,13 +7,11 @@ use native.Mathlib.Numerals.{add-one}
 use native.Mathlib.Omega.{arith}
 use lib.ListN.{length, take, drop, getD, set, drop-of-length-le}
 use lib.Seq.{drop-cons, drop-drop, set-set}
-use borrow.Author.Tests.{lt-ltb, le-ltb}
-use Rattle.wire.specs.Bytes.{if, over, placed}
-use Rattle.wire.specs.declared.Refusal.the-variants.{NoRoom}
-use Rattle.wire.proofs.Over.{Ahead, start, step, over-none, over-sets, placed-fits}
+use Rattle.wire.specs.Bytes.{if, splice}
+use Rattle.wire.specs.Call.{putAt}
+use Rattle.wire.proofs.Splices.{Ahead, start, step, splice-none, splice-sets, putAt-fits}
 use Rattle.basex_string.specs.Strings.{special, string}
-use Rattle.basex_string.specs.Answers.{specials, spelling}
-use Rattle.basex_string.specs.declared.Spelled.the-variants as spelled
+use Rattle.basex_string.specs.inner.Runs.{specials}
 
 pub here : (s : List ℕ) (i : ℕ) → i < length s → drop i s ≡ getD s i 0 ∷ drop (i + 1) s
 here s i h = drop-cons s i 0 h ∙ ap (λ (n : ℕ). getD s i 0 ∷ drop n s) (sym (add-one i))
@@ -92,11 +90,11 @@ module _ (s : List ℕ) (i : ℕ) (h : i < length s) where
   unfolding string
   string-plain e = ap string (here s i h) ∙ rw e
 
-pub put-one : (d : List ℕ) (at x : ℕ) → at + 1 ≤ length d → set d at x ≡ placed d at (x ∷ [])
-put-one d at x h = over-sets d at (x ∷ []) h ∙ sym (placed-fits d at (x ∷ []) h)
+pub put-one : (d : List ℕ) (at x : ℕ) → at + 1 ≤ length d → set d at x ≡ putAt d at (x ∷ [])
+put-one d at x h = splice-sets d at (x ∷ []) h ∙ sym (putAt-fits d at (x ∷ []) h)
 
-put-two : (d : List ℕ) (at x y : ℕ) → at + 2 ≤ length d → set (set d at x) (at + 1) y ≡ placed d at (x ∷ y ∷ [])
-put-two d at x y h = ap (λ (n : ℕ). set (set d at x) n y) (add-one at) ∙ over-sets d at (x ∷ y ∷ []) h ∙ sym (placed-fits d at (x ∷ y ∷ []) h)
+put-two : (d : List ℕ) (at x y : ℕ) → at + 2 ≤ length d → set (set d at x) (at + 1) y ≡ putAt d at (x ∷ y ∷ [])
+put-two d at x y h = ap (λ (n : ℕ). set (set d at x) n y) (add-one at) ∙ splice-sets d at (x ∷ y ∷ []) h ∙ sym (putAt-fits d at (x ∷ y ∷ []) h)
 
 -- the loop of `store_few`: an FF is stored, and then the byte behind it or in its place
 pub ahead-pair : {t d : List ℕ} {to b : ℕ} {text rest : List ℕ} (k : ℕ) → text ≡ 255 ∷ b ∷ rest → Ahead t d to text → k ≡ to + 1 → Ahead t (set (set d to 255) k b) (k + 1) rest
@@ -109,16 +107,8 @@ ahead-over {t} {d} {to} {b} {text} {rest} k e a q =
     let f : Ahead t d to ((b ∷ []) ++ rest) = subst (Ahead t d to) e a in
     step (b ∷ []) (k + 1) f (ap (λ (n : ℕ). set (set d to 255) n b) q ∙ set-set d to 255 b ∙ put-one d to b (omega arith)) (omega arith)
 
--- what writing answers
-module _ (room at : ℕ) (s : List ℕ) where
-  pub spelling-fits : (n : ℕ) → n ≡ length (string s) → at + n ≤ room → spelled.Bytes n ≡ spelling room at s
-  spelling-fits n e h = rw (le-ltb room (at + length (string s)) (omega arith)) (ap spelled.Bytes e)
-
-  pub spelling-not : room < at + length (string s) → spelled.Refused NoRoom ≡ spelling room at s
-  spelling-not h = rw (lt-ltb room (at + length (string s)) h)
-
 -- the loop of `store_text`: n bytes stand from `to` on, and `rest` is ahead
-pub ahead-from : (d : List ℕ) (to : ℕ) (s : List ℕ) → to + length s ≤ length d → Ahead (over d to s) d (to + 0) s
+pub ahead-from : (d : List ℕ) (to : ℕ) (s : List ℕ) → to + length s ≤ length d → Ahead (splice d to s) d (to + 0) s
 ahead-from d to s h = let e : to + 0 ≡ to = omega arith in rw e (start d to s h)
 
 pub ahead-one : {t d : List ℕ} (to n : ℕ) {x : ℕ} {text rest : List ℕ} → text ≡ x ∷ rest → Ahead t d (to + n) text → Ahead t (set d (to + n) x) (to + (n + 1)) rest
@@ -127,13 +117,13 @@ ahead-one {t} {d} to n {x} {text} {rest} e a =
     step (x ∷ []) (to + (n + 1)) b (put-one d (to + n) x (omega arith)) (omega arith)
 
 pub ahead-none : {t d : List ℕ} {at : ℕ} {rest : List ℕ} → Ahead t d at rest → length rest ≡ 0 → d ≡ t
-ahead-none {rest = []} a e = sym (over-none _ _) ∙ a .makes
+ahead-none {rest = []} a e = sym (splice-none _ _) ∙ a .makes
 ahead-none {rest = x ∷ rest} a e = absurd (omega arith)
 
 -- a run of what is ahead was written, up to k
-pub ahead-run : {t d e text rest : List ℕ} {at : ℕ} (r : List ℕ) → text ≡ r ++ rest → (k : ℕ) → Ahead t d at text → e ≡ placed d at r → k ≡ at + length r → Ahead t e k rest
+pub ahead-run : {t d e text rest : List ℕ} {at : ℕ} (r : List ℕ) → text ≡ r ++ rest → (k : ℕ) → Ahead t d at text → e ≡ putAt d at r → k ≡ at + length r → Ahead t e k rest
 ahead-run {t} {d} {e} {text} {rest} {at} r q k a p z = step r k (subst (Ahead t d at) q a) p z
 
 -- what is ahead now makes of the output what was ahead made of it
-pub ahead-on : {t d e text rest : List ℕ} {at j k : ℕ} → Ahead t d at text → over e j rest ≡ over d at text → k ≡ j → k + length rest ≤ length e → Ahead t e k rest
-ahead-on {e = e} {rest = rest} a p q f = record { makes = ap (λ (m : ℕ). over e m rest) q ∙ p ∙ a .makes; fits = f }
+pub ahead-on : {t d e text rest : List ℕ} {at j k : ℕ} → Ahead t d at text → splice e j rest ≡ splice d at text → k ≡ j → k + length rest ≤ length e → Ahead t e k rest
+ahead-on {e = e} {rest = rest} a p q f = record { makes = ap (λ (m : ℕ). splice e m rest) q ∙ p ∙ a .makes; fits = f }

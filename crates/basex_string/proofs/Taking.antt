@@ -8,12 +8,13 @@ use lib.Dec.{eqb}
 use lib.ListN.{length, take, drop, getD, set, length-append, length-drop, drop-of-length-le}
 use lib.Seq.{drop-drop, length-take-le}
 use borrow.Author.Tests.{eq-eqb, ne-eqb, eqb-false}
-use Rattle.wire.specs.Bytes.{if, over}
+use Rattle.wire.specs.Bytes.{if, splice}
+use Rattle.wire.specs.Call.{Gives}
 use Rattle.wire.specs.Fields.{Got}
-use Rattle.wire.proofs.Over.{over-none, over-over, over-sets, length-over}
+use Rattle.wire.proofs.Splices.{splice-none, splice-splice, splice-sets, length-splice}
 use Rattle.basex_string.specs.Strings.{special, escaped, string}
 use Rattle.basex_string.specs.Scan.{reading}
-use Rattle.basex_string.specs.Answers.{run}
+use Rattle.basex_string.specs.inner.Runs.{run}
 use Rattle.basex_string.specs.Taking.{Taken, stop, keep, taking, taken, ended}
 use Rattle.basex_string.proofs.Steps.{here}
 use Rattle.basex_string.proofs.Runs.{run-within}
@@ -102,7 +103,7 @@ taken-plains room s i k h f = taken-run k room (drop i s) h f ∙ ap (λ (l : Li
 
 -- the loop of `store_judged_text`: what is taken from i on, put from n on, makes t of the output, which is free from `last` on then, and leaves `rest`
 pub record Going (s t rest : List ℕ) (last : ℕ) (d : List ℕ) (i n : ℕ) : Type 0 where
-  pub makes : over d n (taken (length d - n) (drop i s) .text) ≡ t
+  pub makes : splice d n (taken (length d - n) (drop i s) .text) ≡ t
   pub free : n + length (taken (length d - n) (drop i s) .text) ≡ last
   pub leaves : taken (length d - n) (drop i s) .rest ≡ rest
 
@@ -112,13 +113,13 @@ module _ {s t rest : List ℕ} {last : ℕ} {d : List ℕ} {i n : ℕ} (g : Goin
   going-stop {r} e =
       let z = g .free in
       let l = ap (λ (x : Taken). length (x .text)) e in
-      (sym (over-none d n) ∙ ap (λ (x : Taken). over d n (x .text)) (sym e) ∙ g .makes, omega arith, sym (ap (λ (x : Taken). x .rest) e) ∙ g .leaves)
+      (sym (splice-none d n) ∙ ap (λ (x : Taken). splice d n (x .text)) (sym e) ∙ g .makes, omega arith, sym (ap (λ (x : Taken). x .rest) e) ∙ g .leaves)
 
   -- x was put, and it goes on at j
-  going-on : (x : List ℕ) (j : ℕ) {c : List ℕ} {k : ℕ} → taken (length d - n) (drop i s) ≡ keeps x (taken (length d - n - length x) (drop j s)) → n + length x ≤ length d → c ≡ over d n x → k ≡ n + length x
+  going-on : (x : List ℕ) (j : ℕ) {c : List ℕ} {k : ℕ} → taken (length d - n) (drop i s) ≡ keeps x (taken (length d - n - length x) (drop j s)) → n + length x ≤ length d → c ≡ splice d n x → k ≡ n + length x
       → Going s t rest last c j k
   going-on x j {c} {k} e f p q =
-      let l : length c ≡ length d = ap length p ∙ length-over d n x f in
+      let l : length c ≡ length d = ap length p ∙ length-splice d n x f in
       let m : length c - k ≡ length d - n - length x = omega arith in
       let y : List ℕ = taken (length d - n - length x) (drop j s) .text in
       let z = taken-fits (length d - n - length x) (drop j s) in
@@ -127,8 +128,8 @@ module _ {s t rest : List ℕ} {last : ℕ} {d : List ℕ} {i n : ℕ} (g : Goin
       let a = ap (λ (o : ℕ). length (taken o (drop j s) .text)) m in
       record {
         makes =
-            ap (λ (o : ℕ). over c k (taken o (drop j s) .text)) m
-            ∙ ap (λ (o : List ℕ). over o k y) p ∙ ap (λ (o : ℕ). over (over d n x) o y) q ∙ over-over d n x y (omega arith) ∙ ap (λ (o : Taken). over d n (o .text)) (sym e) ∙ g .makes;
+            ap (λ (o : ℕ). splice c k (taken o (drop j s) .text)) m
+            ∙ ap (λ (o : List ℕ). splice o k y) p ∙ ap (λ (o : ℕ). splice (splice d n x) o y) q ∙ splice-splice d n x y (omega arith) ∙ ap (λ (o : Taken). splice d n (o .text)) (sym e) ∙ g .makes;
         free = omega arith;
         leaves = ap (λ (o : ℕ). taken o (drop j s) .rest) m ∙ ap (λ (o : Taken). o .rest) (sym e) ∙ g .leaves;
       }
@@ -136,10 +137,10 @@ module _ {s t rest : List ℕ} {last : ℕ} {d : List ℕ} {i n : ℕ} (g : Goin
   -- an FF and the byte behind it
   pub going-pair : i + 1 < length s → getD s i 0 ≡ 255 → n < length d → Going s t rest last (set d n (getD s (i + 1) 0)) (i + 2) (n + 1)
   going-pair h e f =
-      going-on (getD s (i + 1) 0 ∷ []) (i + 2) (taken-pair (length d - n) s i (omega arith) (omega arith) e h) (omega arith) (over-sets d n (getD s (i + 1) 0 ∷ []) (omega arith)) refl
+      going-on (getD s (i + 1) 0 ∷ []) (i + 2) (taken-pair (length d - n) s i (omega arith) (omega arith) e h) (omega arith) (splice-sets d n (getD s (i + 1) 0 ∷ []) (omega arith)) refl
 
   -- k plain bytes
-  pub going-run : (k : ℕ) {c : List ℕ} → k ≤ run (drop i s) → n + k ≤ length d → c ≡ over d n (take k (drop i s)) → Going s t rest last c (i + k) (n + k)
+  pub going-run : (k : ℕ) {c : List ℕ} → k ≤ run (drop i s) → n + k ≤ length d → c ≡ splice d n (take k (drop i s)) → Going s t rest last c (i + k) (n + k)
   going-run k h f p =
       let x : List ℕ = take k (drop i s) in
       let l : length x ≡ k = length-take-le k (drop i s) (let w = run-within (drop i s) in omega arith) in
@@ -148,17 +149,18 @@ module _ {s t rest : List ℕ} {last : ℕ} {d : List ℕ} {i n : ℕ} (g : Goin
 -- at the start, and at the end: what `store_judged_text` answers
 module _ (s d : List ℕ) (at to : ℕ) where
   abbrev pub Taking : List ℕ → ℕ → ℕ → Type 0
-  Taking = Going s (over d to (taken (length d - to) (drop at s) .text)) (taken (length d - to) (drop at s) .rest) (to + length (taken (length d - to) (drop at s) .text))
+  Taking = Going s (splice d to (taken (length d - to) (drop at s) .text)) (taken (length d - to) (drop at s) .rest) (to + length (taken (length d - to) (drop at s) .text))
 
   pub going-start : Taking d at to
   going-start = record { makes = refl; free = refl; leaves = refl }
 
   pub going-end : {c : List ℕ} {i n : ℕ} (j : ℕ) {r : List ℕ} → Taking c i n → taken (length c - n) (drop i s) ≡ stop r → j ≡ at + (length s - at - length r)
-      → (record { next = j; to = n } ≡ ended at (length s - at) to (taken (length d - to) (drop at s))) × (c ≡ over d to (taken (length d - to) (drop at s) .text))
+      → Gives (ended at (length s - at) to (taken (length d - to) (drop at s))) (splice d to (taken (length d - to) (drop at s) .text)) (record { next = j; to = n }) c
   going-end {c} {i} {n} j {r} g e q =
       let z = going-stop g e in
       let w : j ≡ at + (length s - at - length (taken (length d - to) (drop at s) .rest)) = q ∙ ap (λ (o : List ℕ). at + (length s - at - length o)) (z .2) in
-      (ap (λ (o : ℕ). record { next = o; to = n }) w ∙ ap (λ (o : ℕ). record { next = at + (length s - at - length (taken (length d - to) (drop at s) .rest)); to = o }) (z .1), z .0)
+      let k : ℕ = at + (length s - at - length (taken (length d - to) (drop at s) .rest)) in
+      record { answers = ap (λ (o : ℕ). record { next = o; to = n }) w ∙ ap (λ (o : ℕ). record { next = k; to = o }) (z .1); leaves = z .0 }
 
 -- r is what s ends with
 abbrev Tail : List ℕ → List ℕ → Type 0

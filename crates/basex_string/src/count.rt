@@ -1,15 +1,10 @@
 // How many special bytes a text has.
 ghost use mathlib.Core.Path.{_≡_};
-ghost use Prim.Native.Nat.{_≤_, min};
+ghost use Prim.Native.Nat.{_≤_};
 ghost use lib.ListN.{length};
-ghost use Rattle.basex_string.specs.Answers.{specials};
+ghost use Rattle.basex_string.specs.inner.Runs.{specials};
 use crate::is_special;
-
-pub fn least(a: usize, b: usize) -> usize
-    ensures { λ r. ⌜ r ≡ min a b ⌝ }
-{
-    if a < b { a } else { b }
-}
+use wire::least;
 
 // A count that fits a byte: the compiler then counts sixteen bytes at once.
 fn count_few(part: &[u8]) -> usize

@@ -7,21 +7,19 @@ ghost use mathlib.Core.List.{[], _∷_, _++_};
 ghost use Prim.Native.Nat.{_+_, _*_, _≤_, _<_, min};
 ghost use lib.Dec.{eqb, leb};
 ghost use lib.ListN.{length, drop, getD};
-ghost use Rattle.wire.specs.Bytes.{if, over, placed};
+ghost use Rattle.wire.specs.Bytes.{if, splice};
+ghost use Rattle.wire.specs.Call.{inRoom, Gives, Writes};
 ghost use Rattle.basex_string.specs.Strings.{special, string};
 ghost use Rattle.basex_string.specs.Scan.{reading};
-ghost use Rattle.basex_string.specs.Answers.{run, pairs, spelling, located, decoded, left, textOf};
+ghost use Rattle.basex_string.specs.Answers.{located, decoded, outputRead};
+ghost use Rattle.basex_string.specs.inner.Runs.{run, pairs};
+ghost use Rattle.basex_string.specs.inner.Storing.{textRead, Remains, StoredSome};
 pub use put::store_judged_text;
+use wire::Counted;
 use wire::Refusal;
 
 mod count;
 mod put;
-
-// How many bytes were written, or why none was.
-pub enum Spelled {
-    Bytes(usize),
-    Refused(Refusal),
-}
 
 // How many bytes a string has, decoded, and where the next field starts.
 pub enum StringAt {
@@ -97,7 +95,8 @@ fn few_end(s: &[u8], from: usize) -> usize
 
 // Past plain bytes: blocks, and then a few one by one, up to where no block is plain.
 fn run_end(s: &[u8], from: usize) -> usize
-    ensures { λ r. ⌜ (from + min 16 (run (drop from (now (s .entry)))) ≤ r) × (r ≤ from + run (drop from (now (s .entry)))) ⌝ }
+    ensures { λ r. ⌜ (from + min 16 (run (drop from (now (s .entry)))) ≤ r)
+        × (r ≤ from + run (drop from (now (s .entry)))) ⌝ }
 {
     let blocks = skip_blocks(s, from);
     few_end(s, blocks)
@@ -106,7 +105,7 @@ fn run_end(s: &[u8], from: usize) -> usize
 // How many pairs stand at `from`, eight at most. Where one stands, others often follow.
 fn pairs_at(s: &[u8], from: usize) -> usize
     requires { ⌜ from ≤ length (now s) ⌝ }
-    ensures { λ r. ⌜ r ≤ pairs (drop from (now (s .entry))) ⌝ }
+    ensures { λ r. ⌜ (r ≤ pairs (drop from (now (s .entry)))) × (from + 2 * r ≤ length (now (s .entry))) ⌝ }
 {
     let mut n: usize = 0;
     let mut at = from;
@@ -138,7 +137,8 @@ pub fn string_len(text: &[u8]) -> usize
 // every byte, and a plain byte takes its place: no branch, which the processor could guess wrong.
 fn store_few(out: &mut [u8], at: usize, part: &[u8]) -> usize
     requires { ⌜ at + length (string (now part)) ≤ length (now out) ⌝ }
-    ensures { λ r. ⌜ (r + 1 ≡ at + length (string (now (part .entry)))) × (now (out .exit) ≡ over (now (out .entry)) at (string (now (part .entry)))) ⌝ }
+    ensures { λ r. ⌜ (r + 1 ≡ at + length (string (now (part .entry))))
+        × (now (out .exit) ≡ splice (now (out .entry)) at (string (now (part .entry)))) ⌝ }
 {
     let mut to = at;
     let mut i: usize = 0;
@@ -160,7 +160,7 @@ fn store_few(out: &mut [u8], at: usize, part: &[u8]) -> usize
 // what follows it.
 fn store_string(out: &mut [u8], at: usize, text: &[u8])
     requires { ⌜ at + length (string (now text)) ≤ length (now out) ⌝ }
-    ensures { λ _. ⌜ now (out .exit) ≡ over (now (out .entry)) at (string (now (text .entry))) ⌝ }
+    ensures { λ _. ⌜ now (out .exit) ≡ splice (now (out .entry)) at (string (now (text .entry))) ⌝ }
 {
     let mut to = at;
     let mut i: usize = 0;
@@ -181,30 +181,28 @@ fn store_string(out: &mut [u8], at: usize, text: &[u8])
 // A text with no special byte.
 fn store_plain(out: &mut [u8], at: usize, text: &[u8])
     requires { ⌜ at + length (now text) + 1 ≤ length (now out) ⌝ }
-    ensures { λ _. ⌜ now (out .exit) ≡ over (now (out .entry)) at (now (text .entry) ++ 0 ∷ []) ⌝ }
+    ensures { λ _. ⌜ now (out .exit) ≡ splice (now (out .entry)) at (now (text .entry) ++ 0 ∷ []) ⌝ }
 {
     wire::put_bytes(out, at, text);
     out[at + text.len()] = 0;
 }
 
 // The text as a string, from `at` on.
-pub fn write_string(out: &mut [u8], at: usize, text: &[u8]) -> Spelled
-    ensures { λ r. ⌜ (r ≡ spelling (length (now (out .entry))) at (now (text .entry))) × (now (out .exit) ≡ placed (now (out .entry)) at (string (now (text .entry)))) ⌝ }
+pub fn write_string(out: &mut [u8], at: usize, text: &[u8]) -> Counted
+    ensures { λ r. ⌜ Writes (inRoom (length (now (out .entry))) at (length (string (now (text .entry)))))
+        (now (out .entry)) at (string (now (text .entry))) r (now (out .exit)) ⌝ }
 {
-    let n = string_len(text);
-    let room = out.len();
-    if room < at {
-        return Spelled::Refused(Refusal::NoRoom);
+    match wire::in_room(out.len(), at, string_len(text)) {
+        Counted::Refused(r) => Counted::Refused(r),
+        Counted::Count(n) => {
+            if n == text.len() + 1 {
+                store_plain(out, at, text);
+                return Counted::Count(n);
+            }
+            store_string(out, at, text);
+            Counted::Count(n)
+        }
     }
-    if room - at < n {
-        return Spelled::Refused(Refusal::NoRoom);
-    }
-    if n == text.len() + 1 {
-        store_plain(out, at, text);
-        return Spelled::Bytes(n);
-    }
-    store_string(out, at, text);
-    Spelled::Bytes(n)
 }
 
 // The string that starts at `at`, judged; nothing is stored.
@@ -246,16 +244,16 @@ fn opens(b: u8, escaped: bool) -> bool
 }
 
 // How many bytes of the text were stored, and where the next ones stand.
-struct Stored {
+struct FewStored {
     count: usize,
     next: usize,
 }
 
 // What stands at `from`, sixteen bytes at most, one by one. An FF that escapes is stored too, and what
 // it escapes takes its place: no branch, which the processor could guess wrong.
-fn put_few(bytes: &[u8], from: usize, out: &mut [u8], to: usize, most: usize) -> Stored
-    requires { ⌜ (most ≡ length (textOf (reading (drop from (now bytes))))) × (to + most ≤ length (now out)) × (0 < most) ⌝ }
-    ensures { λ r. ⌜ (0 < r .count) × (r .count + length (textOf (reading (drop (r .next) (now (bytes .entry))))) ≡ most) × (over (now (out .exit)) (to + r .count) (textOf (reading (drop (r .next) (now (bytes .entry))))) ≡ over (now (out .entry)) to (textOf (reading (drop from (now (bytes .entry)))))) ⌝ }
+fn put_few(bytes: &[u8], from: usize, out: &mut [u8], to: usize, most: usize) -> FewStored
+    requires { ⌜ Remains (now bytes) from (now out) to most × (0 < most) ⌝ }
+    ensures { λ r. ⌜ StoredSome (now (bytes .entry)) from (r .next) (now (out .entry)) (now (out .exit)) to most (r .count) ⌝ }
 {
     let mut count: usize = 0;
     let mut i = from;
@@ -270,18 +268,19 @@ fn put_few(bytes: &[u8], from: usize, out: &mut [u8], to: usize, most: usize) ->
         i += 1;
         if i - from == 16 {
             if escaped {
-                return Stored { count, next: i - 1 };
+                return FewStored { count, next: i - 1 };
             }
-            return Stored { count, next: i };
+            return FewStored { count, next: i };
         }
     }
-    Stored { count, next: i }
+    FewStored { count, next: i }
 }
 
 // What pairs from `from` on escape, eight at most; the answer is how many.
 fn put_pairs(bytes: &[u8], from: usize, out: &mut [u8], to: usize, most: usize) -> usize
-    requires { ⌜ (most ≡ length (textOf (reading (drop from (now bytes))))) × (to + most ≤ length (now out)) × (0 < most) × (getD (now bytes) from 0 ≡ 255) ⌝ }
-    ensures { λ r. ⌜ (0 < r) × (from + 2 * r ≤ length (now (bytes .entry))) × (r + length (textOf (reading (drop (from + 2 * r) (now (bytes .entry))))) ≡ most) × (over (now (out .exit)) (to + r) (textOf (reading (drop (from + 2 * r) (now (bytes .entry))))) ≡ over (now (out .entry)) to (textOf (reading (drop from (now (bytes .entry)))))) ⌝ }
+    requires { ⌜ Remains (now bytes) from (now out) to most × (0 < most) × (getD (now bytes) from 0 ≡ 255) ⌝ }
+    ensures { λ r. ⌜ StoredSome (now (bytes .entry)) from (from + 2 * r) (now (out .entry)) (now (out .exit)) to most r
+        × (from + 2 * r ≤ length (now (bytes .entry))) ⌝ }
 {
     let mut n: usize = 0;
     while n < most {
@@ -299,8 +298,8 @@ fn put_pairs(bytes: &[u8], from: usize, out: &mut [u8], to: usize, most: usize) 
 
 // A string that was judged and has len bytes: its end and its pairs need no test.
 fn store_escaped(bytes: &[u8], at: usize, out: &mut [u8], to: usize, len: usize)
-    requires { ⌜ (len ≡ length (textOf (reading (drop at (now bytes))))) × (to + len ≤ length (now out)) ⌝ }
-    ensures { λ _. ⌜ now (out .exit) ≡ over (now (out .entry)) to (textOf (reading (drop at (now (bytes .entry))))) ⌝ }
+    requires { ⌜ Remains (now bytes) at (now out) to len ⌝ }
+    ensures { λ _. ⌜ now (out .exit) ≡ splice (now (out .entry)) to (textRead (reading (drop at (now (bytes .entry))))) ⌝ }
 {
     let mut i = at;
     let mut n: usize = 0;
@@ -327,7 +326,7 @@ fn store_escaped(bytes: &[u8], at: usize, out: &mut [u8], to: usize, len: usize)
 // A string that was judged. One with no escape is its text and the 00.
 fn store_text(bytes: &[u8], at: usize, out: &mut [u8], to: usize, len: usize, next: usize)
     requires { ⌜ (located (length (now bytes)) (reading (drop at (now bytes))) ≡ StringAt.At len next) × (to + len ≤ length (now out)) ⌝ }
-    ensures { λ _. ⌜ now (out .exit) ≡ over (now (out .entry)) to (textOf (reading (drop at (now (bytes .entry))))) ⌝ }
+    ensures { λ _. ⌜ now (out .exit) ≡ splice (now (out .entry)) to (textRead (reading (drop at (now (bytes .entry))))) ⌝ }
 {
     let end = next - 1;
     if end - at == len {
@@ -339,21 +338,17 @@ fn store_text(bytes: &[u8], at: usize, out: &mut [u8], to: usize, len: usize, ne
 
 // The string that starts at `at`, put into the output from `to` on.
 pub fn decode(bytes: &[u8], at: usize, out: &mut [u8], to: usize) -> StringAt
-    ensures { λ r. ⌜ (r ≡ decoded (length (now (bytes .entry))) (length (now (out .entry))) to (reading (drop at (now (bytes .entry))))) × (now (out .exit) ≡ left (now (out .entry)) to (reading (drop at (now (bytes .entry))))) ⌝ }
+    ensures { λ r. ⌜ Gives (decoded (length (now (bytes .entry))) (length (now (out .entry))) to (reading (drop at (now (bytes .entry)))))
+        (outputRead (λ s. s) (now (out .entry)) to (reading (drop at (now (bytes .entry))))) r (now (out .exit)) ⌝ }
 {
-    let found = string_at(bytes, at);
-    match found {
+    match string_at(bytes, at) {
         StringAt::Refused(r) => StringAt::Refused(r),
-        StringAt::At { len, next } => {
-            let room = out.len();
-            if room < to {
-                return StringAt::Refused(Refusal::NoRoom);
+        StringAt::At { len, next } => match wire::in_room(out.len(), to, len) {
+            Counted::Refused(r) => StringAt::Refused(r),
+            Counted::Count(_) => {
+                store_text(bytes, at, out, to, len, next);
+                StringAt::At { len, next }
             }
-            if room - to < len {
-                return StringAt::Refused(Refusal::NoRoom);
-            }
-            store_text(bytes, at, out, to, len, next);
-            StringAt::At { len, next }
-        }
+        },
     }
 }

@@ -12,11 +12,12 @@ mod message;
 mod replay;
 mod text;
 
-use lines::cut::behind;
-use lines::cut::first;
-use lines::cut::front;
-use lines::print::decimal;
-use lines::print::say;
+use text_lines::cut::behind;
+use text_lines::cut::front;
+use text_lines::input::asks;
+use text_lines::print::decimal;
+use text_lines::print::say;
+use wire::first;
 
 // The major version that a word names; 0 where it names none.
 fn version_of(word: &[u8]) -> u8 {
@@ -31,9 +32,9 @@ fn version_of(word: &[u8]) -> u8 {
 }
 
 fn answer(line: &[u8]) {
-    let told = front(line, b'#');
-    let version = version_of(front(told, b' '));
-    let words = behind(told, b' ');
+    let all = front(line, b'#');
+    let version = version_of(front(all, b' '));
+    let words = behind(all, b' ');
     if version == 0 || !replay::readable(words) {
         say(line);
         say(b" ?");
@@ -42,17 +43,17 @@ fn answer(line: &[u8]) {
     decimal(version as u64);
     say(b":");
     replay::conversation(version, words);
-    if told.len() < line.len() {
+    if all.len() < line.len() {
         say(b" #");
         say(behind(line, b'#'));
     }
 }
 
 fn show(line: &[u8]) {
-    if line.len() == 0 || line[0] == b'#' {
-        say(line);
-    } else {
+    if asks(line) {
         answer(line);
+    } else {
+        say(line);
     }
     say(b"\n");
 }
@@ -60,7 +61,7 @@ fn show(line: &[u8]) {
 // Whether there was one more line.
 fn next_line() -> bool {
     let mut buffer = io::buffer();
-    let n = lines::input::line(&mut buffer);
+    let n = text_lines::input::line(&mut buffer);
     if n == 0 {
         return false;
     }

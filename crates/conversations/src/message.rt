@@ -1,16 +1,16 @@
 // A small well formed message of each instruction, and both forms of the step on it.
 use crate::forms::agree;
-use lines::cut::first;
-use lines::print::decimal;
-use lines::print::say;
 use sedna::Found;
 use sedna::Shape;
 use sedna_read::Reading;
-use sedna_write::Written;
 use session::Session;
+use text_lines::print::decimal;
+use text_lines::print::say;
+use wire::Counted;
+use wire::first;
 
 // Writes the message; a session's parameters name the version.
-fn write(out: &mut [u8], instruction: u32, shape: Shape, version: u8) -> Written {
+fn write(out: &mut [u8], instruction: u32, shape: Shape, version: u8) -> Counted {
     match shape {
         Shape::Empty => sedna_write::write_empty(out, instruction),
         Shape::Session => sedna_write::write_session(out, instruction, version, 0, b"u", b"d"),
@@ -30,12 +30,12 @@ pub fn offer(session: Session, version: u8, instruction: u32) -> Session {
     let Found::Known(side, shape) = sedna::find(instruction) else {
         return session;
     };
-    let Written::Bytes(n) = write(&mut space, instruction, shape, version) else {
+    let Counted::Count(n) = write(&mut space, instruction, shape, version) else {
         return session;
     };
     let bytes = first(&space, n);
     let after = session::step(session, side, bytes);
-    let kept = session_cell::step_kept(session, side, bytes);
+    let kept = session_lent::step_kept(session, side, bytes);
     say(b" ");
     decimal(instruction as u64);
     let answer = after.answer;

@@ -1,12 +1,12 @@
 // The words of a line, replayed from a fresh session.
 use crate::message::offer;
 use crate::text::instruction;
-use lines::cut::front;
-use lines::cut::same;
-use lines::print::say;
 use sedna::Found;
 use sedna::names;
 use session::Session;
+use text_lines::cut::front;
+use text_lines::cut::same;
+use text_lines::print::say;
 
 fn start(fresh: Session, version: u8) -> Session {
     let s = offer(fresh, version, names::START_UP);

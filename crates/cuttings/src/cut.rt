@@ -7,17 +7,16 @@ use crate::text::refused;
 use crate::text::say_refusal;
 use crate::text::say_value;
 use crate::text::value;
-use assembly::Assembly;
-use assembly::Open;
-use fragments::Parts;
-use lines::cut::behind;
-use lines::cut::first;
-use lines::cut::front;
-use lines::cut::same;
-use lines::print::say;
+use parts_join::Assembly;
+use parts_join::Open;
 use sedna::Found;
 use sedna_read::Reading;
-use sedna_write::Written;
+use text_lines::cut::behind;
+use text_lines::cut::front;
+use text_lines::cut::same;
+use text_lines::print::say;
+use wire::Counted;
+use wire::first;
 
 // What is cut; a URL by its length.
 enum Cut {
@@ -28,26 +27,26 @@ enum Cut {
 }
 
 // How many messages n bytes are cut into.
-fn count(cut: Cut, n: usize) -> Parts {
+fn count(cut: Cut, n: usize) -> Counted {
     match cut {
-        Cut::Statement { .. } => Parts::Are(fragments::statement_parts(n)),
-        Cut::Item => Parts::Are(fragments::item_parts(n)),
-        Cut::Typed { .. } => Parts::Are(fragments::typed_item_parts(n)),
-        Cut::WithUrl { url, .. } => fragments::typed_item_url_parts(n, url),
+        Cut::Statement { .. } => Counted::Count(parts_cut::statement_parts(n)),
+        Cut::Item => Counted::Count(parts_cut::item_parts(n)),
+        Cut::Typed { .. } => Counted::Count(parts_cut::typed_item_parts(n)),
+        Cut::WithUrl { url, .. } => parts_cut::typed_item_url_parts(n, url),
     }
 }
 
-fn write_with_url(out: &mut [u8], class: u8, kind: u8, n: usize, text: &[u8], k: usize) -> Written {
+fn write_with_url(out: &mut [u8], class: u8, kind: u8, n: usize, text: &[u8], k: usize) -> Counted {
     let urls = [b'u'; MOST];
-    fragments::write_typed_item_url_part(out, class, kind, first(&urls, n), text, k)
+    parts_cut::write_typed_item_url_part(out, class, kind, first(&urls, n), text, k)
 }
 
 // Writes part k.
-fn write(out: &mut [u8], cut: Cut, text: &[u8], k: usize) -> Written {
+fn write(out: &mut [u8], cut: Cut, text: &[u8], k: usize) -> Counted {
     match cut {
-        Cut::Statement { format } => fragments::write_statement_part(out, format, text, k),
-        Cut::Item => fragments::write_item_part(out, text, k),
-        Cut::Typed { class, kind } => fragments::write_typed_item_part(out, class, kind, text, k),
+        Cut::Statement { format } => parts_cut::write_statement_part(out, format, text, k),
+        Cut::Item => parts_cut::write_item_part(out, text, k),
+        Cut::Typed { class, kind } => parts_cut::write_typed_item_part(out, class, kind, text, k),
         Cut::WithUrl { class, kind, url } => write_with_url(out, class, kind, url, text, k),
     }
 }
@@ -73,8 +72,8 @@ fn part(a: Assembly, buffer: &mut [u8], cut: Cut, text: &[u8], k: usize) -> Asse
     let mut out = [0u8; 10248];
     say(b";");
     match write(&mut out, cut, text, k) {
-        Written::Refused(r) => refused(a, r),
-        Written::Bytes(n) => joined(a, buffer, first(&out, n), text),
+        Counted::Refused(r) => refused(a, r),
+        Counted::Count(n) => joined(a, buffer, first(&out, n), text),
     }
 }
 
@@ -106,11 +105,11 @@ fn cutting(open: Assembly, cut: Cut, pattern: &[u8], words: &[u8]) {
     say(b": parts");
     let mut n = 0;
     match count(cut, length) {
-        Parts::Are(k) => {
+        Counted::Count(k) => {
             say_value(b' ', k);
             n = k;
         }
-        Parts::Refused(r) => say_refusal(r),
+        Counted::Refused(r) => say_refusal(r),
     }
     parts(open, &mut buffer[0..room], cut, text, n);
 }
@@ -129,7 +128,7 @@ fn typed(open: Assembly, class: u8, pattern: &[u8], words: &[u8]) {
 }
 
 // Cuts what a line tells behind its kind.
-pub fn told(kind: &[u8], pattern: &[u8], words: &[u8]) {
+pub fn answered(kind: &[u8], pattern: &[u8], words: &[u8]) {
     let format = value(front(words, b' '), 255);
     let rest = behind(words, b' ');
     let open = opened(kind);

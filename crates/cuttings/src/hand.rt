@@ -4,10 +4,10 @@ ghost use mathlib.Core.Path.{_≡_};
 ghost use lib.ListN.{length};
 ghost use Rattle.sedna.specs.Message.{message};
 ghost use Rattle.sedna_read.specs.Meaning.{bodyIn};
-ghost use Rattle.assembly.specs.Joining.{joined};
+ghost use Rattle.parts_join.specs.Joining.{joined};
 use crate::text::say_answer;
-use assembly::Assembly;
-use assembly::Joined;
+use parts_join::Assembly;
+use parts_join::Joined;
 use sedna_read::Places;
 
 // Prints the answer and whether what was handed over is the text, and goes on with the record.
@@ -29,6 +29,6 @@ pub fn join_said(
 ) -> Assembly
     ensures { λ r. ⌜ r ≡ joined a (length (now (buffer .entry))) (message instruction (bodyIn (now (bytes .entry)) places)) .assembly ⌝ }
 {
-    let h = assembly_handing::join_handing(a, buffer, instruction, places, bytes);
+    let h = parts_handing::join_handing(a, buffer, instruction, places, bytes);
     said(h.joined, h.part, text)
 }

@@ -3,27 +3,27 @@ use crate::hand::join_said;
 use crate::text::MOST;
 use crate::text::number;
 use crate::text::value;
-use assembly::Assembly;
-use lines::cut::behind;
-use lines::cut::front;
-use lines::cut::same;
-use lines::print::say;
+use parts_join::Assembly;
 use sedna::Found;
 use sedna::Shape;
 use sedna_read::Places;
 use sedna_read::UrlPlace;
+use text_lines::cut::behind;
+use text_lines::cut::front;
+use text_lines::cut::same;
+use text_lines::print::say;
 use wire::Place;
 
 // What a word opens.
 pub fn opened(word: &[u8]) -> Assembly {
     if same(word, b"statement") {
-        return assembly::open_statement();
+        return parts_join::open_statement();
     }
     if same(word, b"item") {
-        return assembly::open_item();
+        return parts_join::open_item();
     }
     if same(word, b"typed") {
-        return assembly::open_typed_item();
+        return parts_join::open_typed_item();
     }
     if !same(word, b"none") {
         say(b" ?");
@@ -76,7 +76,7 @@ fn take(a: Assembly, buffer: &mut [u8], pattern: &[u8], word: &[u8]) -> Assembly
 }
 
 // The words are OPENING ROOM M M ..
-pub fn told(pattern: &[u8], words: &[u8]) {
+pub fn answered(pattern: &[u8], words: &[u8]) {
     let mut buffer = [0u8; MOST];
     let rest = behind(words, b' ');
     let room = number(front(rest, b' '), 32769);

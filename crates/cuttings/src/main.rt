@@ -20,20 +20,21 @@ mod join;
 mod text;
 
 use libc::STDIN_FILENO;
-use lines::cut::behind;
-use lines::cut::front;
-use lines::cut::same;
-use lines::print::say;
 use text::fill;
+use text_lines::cut::behind;
+use text_lines::cut::front;
+use text_lines::cut::same;
+use text_lines::input::asks;
+use text_lines::print::say;
 
 fn show(pattern: &[u8], line: &[u8]) {
     let kind = front(line, b' ');
     if same(kind, b"join") {
-        return join::told(pattern, behind(line, b' '));
+        return join::answered(pattern, behind(line, b' '));
     }
     say(line);
-    if line.len() != 0 && line[0] != b'#' {
-        cut::told(kind, pattern, behind(line, b' '));
+    if asks(line) {
+        cut::answered(kind, pattern, behind(line, b' '));
     }
 }
 

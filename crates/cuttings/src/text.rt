@@ -1,11 +1,12 @@
 // Numbers that words spell, and printing what is answered.
-use assembly::Answer;
-use assembly::Assembly;
-use lines::cut::first;
-use lines::cut::same;
-use lines::print::decimal;
-use lines::print::say;
+use parts_join::Answer;
+use parts_join::Assembly;
+use text_lines::cut::same;
+use text_lines::parse::Number;
+use text_lines::print::decimal;
+use text_lines::print::say;
 use wire::Refusal;
+use wire::first;
 
 // The greatest length and room, and the greatest number of a line.
 pub const MOST: usize = 32768;
@@ -60,20 +61,14 @@ pub fn number(word: &[u8], missing: usize) -> usize {
     if word.len() == 0 {
         return missing;
     }
-    let mut n = 0;
-    let mut i = 0;
-    while i < word.len() {
-        let b = word[i];
-        match b {
-            b'0'..=b'9' => n = n * 10 + (b - b'0') as usize,
-            _ => n = 32769,
-        }
-        if MOST < n {
-            return 32769;
-        }
-        i += 1;
+    match text_lines::parse::decimal(word) {
+        Number::Is(n) => if n as usize <= MOST {
+            n as usize
+        } else {
+            MOST + 1
+        },
+        Number::Not => MOST + 1,
     }
-    n
 }
 
 // A byte; 255 for more than a byte, or none.

@@ -1,15 +1,15 @@
 -- Demand 1 holds: of messages and the session, of cutting and joining, and of BaseX.
-use mathlib.Core.Path.{ap}
-use Rattle.sedna_exact.proofs.Due.{refused-exact}
-use Rattle.sedna_exact.proofs.Lists.{lists-together, lists-refused, lists-left}
-use Rattle.sedna_exact.proofs.Pieces.{pieces-bytes}
-use Rattle.sedna_exact.proofs.Stands.{refusal-stands}
-use Rattle.sedna_exact.proofs.Unwritten.{unwritten-exact}
-use Rattle.sedna_write.specs.Writing.{left}
-use Rattle.session_exact.proofs.Refused.{step-refused}
-use Rattle.fragments_exact.proofs.PartDue.{part-due}
-use Rattle.assembly.proofs.Offered.{offered}
-use Rattle.assembly.proofs.Refusals.{refusal-leaves}
+use Rattle.sedna_laws.proofs.Due.{refused-exact}
+use Rattle.sedna_laws.proofs.Lists.{lists-together, lists-refused, lists-left}
+use Rattle.sedna_laws.proofs.Pieces.{pieces-bytes}
+use Rattle.sedna_laws.proofs.Stands.{refusal-stands}
+use Rattle.sedna_laws.proofs.Unwritten.{unwritten-exact}
+use Rattle.wire.proofs.Call.{refused-leaves}
+use Rattle.sedna.specs.Encode.{encode}
+use Rattle.session_laws.proofs.Refused.{step-refused}
+use Rattle.parts_laws.proofs.PartDue.{part-due}
+use Rattle.parts_join.proofs.Offered.{offered}
+use Rattle.parts_join.proofs.Refusals.{refusal-leaves}
 use Rattle.demands.specs.Demand1.{Sedna, Parts, Demand1}
 use Rattle.demands.proofs.Refused.{basex}
 
@@ -19,7 +19,7 @@ sedna = record {
   fields-encoded = pieces-bytes;
   refusal-stands = refusal-stands;
   writing-refused = unwritten-exact;
-  writing-leaves = λ out m r e. ap (left out m) e;
+  writing-leaves = λ out m r e. refused-leaves _ r out 0 (encode m) e;
   lists-together = lists-together;
   lists-refused = lists-refused;
   lists-left = lists-left;

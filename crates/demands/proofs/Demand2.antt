@@ -5,29 +5,29 @@ use mathlib.Core.Path.{_≡_, ap, _∙_}
 use Prim.Native.Nat.{ℕ}
 use Rattle.wire.specs.Fields.{Got}
 use Rattle.sedna_read.specs.Places.{located}
-use Rattle.sedna_exact.proofs.Bounds.{bounds}
-use Rattle.sedna_exact.proofs.Exact.{exact, one-message, one-encoding, behind}
-use Rattle.sedna_exact.proofs.Lists.{options-written, options-are, options-given}
-use Rattle.sedna_exact.proofs.Meaning.{meaning-located}
-use Rattle.sedna_exact.proofs.Options.{option-exact}
-use Rattle.sedna_exact.proofs.Table.{once}
-use Rattle.sedna_exact.proofs.Written.{written-exact, read-written, write-read}
-use Rattle.fragments.proofs.Counts.{statement-counted, statements-counted, item-counted, typed-item-counted}
-use Rattle.assembly.proofs.Cuttings.{joins}
-use Rattle.assembly_handing.proofs.Handed.{hands-over}
-use Rattle.fragments_exact.proofs.Cuts.{statement-cut-published, statement-cut-request, item-cut-published, item-cut-item, typed-item-cut-published, typed-item-cut-item}
-use Rattle.fragments_exact.proofs.Filled.{statement-filled, item-filled, typed-filled, url-fits, url-counted}
-use Rattle.fragments_exact.proofs.Joins.{statement-rejoined, item-rejoined, typed-item-rejoined}
-use Rattle.fragments_exact.proofs.Parts.{part-read}
-use Rattle.fragments_exact.proofs.ThroughBytes.{returned, room-enough}
+use Rattle.sedna_laws.proofs.Bounds.{bounds}
+use Rattle.sedna_laws.proofs.Exact.{exact, one-message, one-encoding, behind}
+use Rattle.sedna_laws.proofs.Lists.{options-written, options-are, options-given}
+use Rattle.sedna_laws.proofs.Meaning.{meaning-located}
+use Rattle.sedna_laws.proofs.Options.{option-exact}
+use Rattle.sedna_laws.proofs.Table.{once}
+use Rattle.sedna_laws.proofs.Written.{written-exact, read-written, write-read}
+use Rattle.parts_cut.proofs.Counts.{statement-counted, statements-counted, item-counted, typed-item-counted}
+use Rattle.parts_join.proofs.Cuttings.{joins}
+use Rattle.parts_handing.proofs.Handed.{hands-over}
+use Rattle.parts_laws.proofs.Cuts.{statement-cut-published, statement-cut-request, item-cut-published, item-cut-item, typed-item-cut-published, typed-item-cut-item}
+use Rattle.parts_laws.proofs.Filled.{statement-filled, item-filled, typed-filled, url-fits, url-counted}
+use Rattle.parts_laws.proofs.Joins.{statement-rejoined, item-rejoined, typed-item-rejoined}
+use Rattle.parts_laws.proofs.Parts.{part-read}
+use Rattle.parts_laws.proofs.ThroughBytes.{returned, room-enough}
 use Rattle.basex_string.specs.Scan.{reading}
 use Rattle.basex_string.specs.Strings.{string}
 use Rattle.basex_string.proofs.Laws as strings
 use Rattle.basex_request.proofs.Laws as requests
-use Rattle.basex_exact.proofs.Exactly.{written-exactly, told-exactly, input-suffices, errors-exactly}
-use Rattle.basex_exact.proofs.Laws as responses
-use Rattle.basex_exact.proofs.Responses.{response-exact, one-response}
-use Rattle.basex_exact.proofs.Wrote.{response-written}
+use Rattle.basex_laws.proofs.Exactly.{written-exactly, told-exactly, input-suffices, errors-exactly}
+use Rattle.basex_laws.proofs.Laws as responses
+use Rattle.basex_laws.proofs.Responses.{response-exact, one-response}
+use Rattle.basex_laws.proofs.Wrote.{response-written}
 use Rattle.demands.specs.Demand2.{Sedna, Parts, BaseX, Demand2}
 
 sedna : Sedna

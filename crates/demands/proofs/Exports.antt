@@ -1,7 +1,7 @@
 -- Demand 3 holds of the exported calls: the record in the caller's bytes follows the messages accepted.
 use mathlib.Core.Bool.{Bool, true, false}
-use mathlib.Core.List.{List, [], _∷_, _++_, append-nil}
-use mathlib.Core.Path.{_≡_, refl, sym, ap, _∙_}
+use mathlib.Core.List.{List, [], _∷_, _++_}
+use mathlib.Core.Path.{_≡_, refl, sym, ap, subst, _∙_}
 use Prim.Native.Nat.{ℕ, _-_, _≤_}
 use native.Mathlib.Omega.{arith}
 use lib.Dec.{eqb, ltb}
@@ -16,32 +16,34 @@ use Rattle.sedna.specs.Message.{Message}
 use Rattle.sedna_read.specs.declared.Reading.the-variants as reads
 use Rattle.sedna_read.specs.Places.{placesOf}
 use Rattle.sedna_read.specs.Reading.{Answer, reading}
+use Rattle.wire.specs.Calls.{Done}
 use Rattle.wire.proofs.Branches.{apart}
-use Rattle.sedna_exact.proofs.Exact.{exact}
+use Rattle.wire.proofs.Calls.{all-right, holds-after}
+use Rattle.wire.proofs.Calls as calls-of
+use Rattle.sedna_laws.proofs.Exact.{exact}
 use Rattle.grammar.specs.Conversation.{Whole}
 use Rattle.session.specs.declared.Session.{Session}
 use Rattle.session.specs.declared.Stepped.{Stepped}
 use Rattle.session.specs.declared.Turn.{Turn}
 use Rattle.session.specs.declared.Turn.the-variants.{Of, Over}
-use Rattle.session.specs.Step.{freshSession, Outcome, outcome, told, stepped, closedOf, turnOf, sideOf}
-use Rattle.session_exact.proofs.Follows.{Follows, fresh-follows, begins, whole-closed, Settled, settles, taken, nine}
-use Rattle.session_exact.proofs.Published.{published-sent}
-use Rattle.session_exact.proofs.Turn.{turn-exact}
+use Rattle.session.specs.Step.{freshSession, Outcome, outcome, byPlaces, stepped, closedOf, turnOf, sideOf}
+use Rattle.session_laws.proofs.Follows.{Follows, fresh-follows, begins, whole-closed, Settled, settles, moved, nine}
+use Rattle.session_laws.proofs.Published.{published-sent}
+use Rattle.session_laws.proofs.Turn.{turn-exact}
 use Rattle.sedna_c.specs.Codes.{readCode, fieldsLeft}
 use Rattle.sedna_c.specs.Sessions.{recordIn, recordPut, sideStepped, kept, turnNumber}
 use Rattle.demands.specs.Answered.{Answered, answered}
-use Rattle.demands.specs.Exports.{Call, Called, called, Why, Right, Closes, Turns, After, Demand3Exports}
+use Rattle.demands.specs.Exports.{Call, Told, called, Why, RightCall, accepting, Closes, Turns, After, Demand3Exports}
 use Rattle.demands.specs.Header.{SideOf, client, server, TurnOf}
-use Rattle.demands.proofs.SednaCalls.{Sides, sides, is-client, is-server}
+use Rattle.demands.proofs.SednaCalls.{is-offered, Sides, sides, is-client, is-server}
 use Rattle.demands.proofs.Tells as tells
 use Rattle.demands.proofs.Tells.{counted, read-count, behind}
 
 -- what a call makes of a step
-abbrev calledAs : List ℕ → Call → Stepped → Called
+abbrev calledAs : List ℕ → Call → Stepped → Done (List ℕ) Told
 calledAs d c x = record {
-  answer = answered (readCode (x .answer) (length (c .fields)));
-  session = kept (x .answer) (x .session) (length (c .fields)) d;
-  fields = fieldsLeft (x .answer) (c .fields);
+  record-after = kept (x .answer) (x .session) (length (c .fields)) d;
+  answer = record { answer = answered (readCode (x .answer) (length (c .fields))); fields = fieldsLeft (x .answer) (c .fields) };
 }
 
 -- what a side's step is
@@ -55,54 +57,53 @@ side-nobody : (s : Session) (side : ℕ) (bytes : List ℕ) → eqb side 1 ≡ f
 unfolding sideStepped
 side-nobody s side bytes o p = rw (o, p)
 
--- a call came out right, and the record follows
-record Goes (before : List Message) (d : List ℕ) (c : Call) (x : Called) : Type 0 where
-  pub accepted : List Message
-  pub right : Right before d c x accepted
-  pub follows : Follows (before ++ accepted) (recordIn (x .session))
-  pub still : 2 ≤ length (x .session)
+-- the session's bytes follow the accepted messages
+record Kept (before : List Message) (d : List ℕ) : Type 0 where
+  pub two : 2 ≤ length d
+  pub follows : Follows before (recordIn d)
+
+-- a call came out right, and the bytes follow
+abbrev Goes : List Message → List ℕ → Call → Done (List ℕ) Told → Type 0
+Goes before d c x = RightCall before d c x × Kept (accepting before c (x .answer)) (x .record-after)
 
 module _ (before : List Message) (d : List ℕ) (two : 2 ≤ length d) (c : Call) (i : Follows before (recordIn d)) where
   is-called : called d c ≡ calledAs d c (sideStepped (recordIn d) (c .side) (c .bytes))
   is-called = rw (le-ltb (length d) 2 two)
 
   refused : (r : Refusal) → Why before c (numberOf r) → Goes before d c (calledAs d c (record { session = recordIn d; answer = reads.Refused r }))
-  refused r why = rw (tells.refused r) (record { accepted = []; right = Right.refused (numberOf r) why; follows = rw (append-nil before) i; still = two })
+  refused r why = rw (tells.refused r) (RightCall.refused (numberOf r) why, record { two = two; follows = i })
 
   module _ (side : Side) (is : SideOf (c .side) side) where
     -- a message that is accepted, where the numbers have room for it
     takes : (m : Message) (n : ℕ) → reading side (c .bytes) ≡ Answer.accepted m n → {s : Session} → Follows (before ++ (m ∷ [])) s
-        → Goes before d c (calledAs d c (told (record { session = s; answer = Answer.accepted m n })))
+        → Goes before d c (calledAs d c (byPlaces (record { session = s; answer = Answer.accepted m n })))
     takes m n e {s} f = by (ltb (length (c .fields)) 10) refl
       where
-        by : (t : Bool) → ltb (length (c .fields)) 10 ≡ t → Goes before d c (calledAs d c (told (record { session = s; answer = Answer.accepted m n })))
+        by : (t : Bool) → ltb (length (c .fields)) 10 ≡ t → Goes before d c (calledAs d c (byPlaces (record { session = s; answer = Answer.accepted m n })))
         by true short = rw short (refused NoRoom (Why.no-room side m n is e (begins f) (ltb-true (length (c .fields)) 10 short)))
         by false room =
-            rw (room, read-count side (c .bytes) (c .are-bytes) m n e) (record {
-              accepted = m ∷ [];
-              right =
-                  Right.accepted side m n (recordPut s d) _ is e (begins f) (ltb-false (length (c .fields)) 10 room)
+            rw (room, read-count side (c .bytes) (c .are-bytes) m n e, is-offered (c .bytes) is e) (
+              RightCall.accepted side m n (recordPut s d) _ is e (begins f) (ltb-false (length (c .fields)) 10 room)
                   (tells.tells side (c .bytes) (c .are-bytes) m n e (drop 10 (c .fields)))
-                  (behind (m .instruction) (placesOf 8 (n - 8) (m .body)) (drop 10 (c .fields))) refl;
-              follows = f;
-              still = omega arith;
-            })
+                  (behind (m .instruction) (placesOf 8 (n - 8) (m .body)) (drop 10 (c .fields))) refl,
+              record { two = omega arith; follows = f },
+            )
 
-    settled-so : (m : Message) (n : ℕ) → reading side (c .bytes) ≡ Answer.accepted m n → {x : Outcome} → Settled before (recordIn d) m n x → Goes before d c (calledAs d c (told x))
-    settled-so m n e (taken f) = takes m n e f
+    settled-so : (m : Message) (n : ℕ) → reading side (c .bytes) ≡ Answer.accepted m n → {x : Outcome} → Settled before (recordIn d) m n x → Goes before d c (calledAs d c (byPlaces x))
+    settled-so m n e (moved f) = takes m n e f
     settled-so m n e (nine b) = refused OutOfOrder (Why.out-of-order side m n is e b)
 
     stepped-so : Goes before d c (calledAs d c (stepped (recordIn d) side (c .bytes)))
     unfolding stepped
     stepped-so = by (reading side (c .bytes)) refl
       where
-        by : (a : Answer) → reading side (c .bytes) ≡ a → Goes before d c (calledAs d c (told (outcome (recordIn d) (reading side (c .bytes)))))
+        by : (a : Answer) → reading side (c .bytes) ≡ a → Goes before d c (calledAs d c (byPlaces (outcome (recordIn d) (reading side (c .bytes)))))
         by (Answer.refused r) e = rw e (refused r (Why.unread side r is e))
         by (Answer.accepted m n) e =
             rw e (settled-so m n e (settles i m n (published-sent (exact side (c .bytes) (c .are-bytes) m n .0 e .0))))
 
   goes : Goes before d c (called d c)
-  goes = rw is-called (by (sides (c .side)))
+  goes = subst (Goes before d c) (sym is-called) (by (sides (c .side)))
     where
       by : Sides (c .side) → Goes before d c (calledAs d c (sideStepped (recordIn d) (c .side) (c .bytes)))
       by (Sides.one e) = rw (side-stepped (recordIn d) (c .side) Client (c .bytes) (is-client e)) (stepped-so Client (is-client e))
@@ -129,15 +130,22 @@ turns before d two i = record { turn = sideOf (turnOf (recordIn d)); told = rw (
     number (Of Server) = TurnOf.somebody server
     number Over = TurnOf.nobody
 
-after : (calls : List Call) (before : List Message) (d : List ℕ) → 2 ≤ length d → Follows before (recordIn d) → After before d calls
-after [] before d two i = (begins i, closes before d two i, turns before d two i)
-after (c ∷ calls) before d two i =
-    let g = goes before d two c i in
-    (g .accepted, g .right, after calls (before ++ g .accepted) (called d c .session) (g .still) (g .follows))
+goes-on : calls-of.Goes called accepting RightCall Kept
+goes-on before d c k = goes before d (k .two) c (k .follows)
+
+after : (d : List ℕ) → Kept [] d → (calls : List Call) → After d calls
+after d k calls =
+    let l = holds-after called accepting RightCall Kept goes-on [] d calls k in
+    record {
+      right = all-right called accepting RightCall Kept goes-on [] d calls k;
+      begun = begins (l .follows);
+      closes = closes _ _ (l .two) (l .follows);
+      turns = turns _ _ (l .two) (l .follows);
+    }
 
 pub demand-3-exports : Demand3Exports
 demand-3-exports = record {
-  after-any-calls = λ d two calls. rw (le-ltb (length d) 2 two) (after calls [] (recordPut freshSession d) (omega arith) fresh-follows);
+  after-any-calls = λ d two calls. rw (le-ltb (length d) 2 two) (after (recordPut freshSession d) (record { two = omega arith; follows = fresh-follows }) calls);
   fresh = λ d two. rw (le-ltb (length d) 2 two) (counted 0 (omega arith), refl);
-  no-record = λ d short c. rw (lt-ltb (length d) 2 short) (tells.refused NoRoom, refl, ap (λ (x : Answered). record { answer = x; session = d; fields = c .fields }) (tells.refused NoRoom), refl, refl);
+  no-record = λ d short c. rw (lt-ltb (length d) 2 short) (tells.refused NoRoom, refl, ap (λ (x : Answered). record { record-after = d; answer = record { answer = x; fields = c .fields } }) (tells.refused NoRoom), refl, refl);
 }

@@ -10,20 +10,20 @@ use borrow.Author.Tests.{ltb-true, ltb-false, leb-true}
 use Rattle.wire.specs.Bytes.{if, between}
 use Rattle.sedna.specs.Allowed.{formatAllowed, classAllowed, typeAllowed, allowed}
 use Rattle.sedna.specs.Message.{Body, Message}
-use Rattle.assembly.specs.declared.Assembly.{Assembly}
-use Rattle.assembly.specs.declared.Joined.{Joined}
-use Rattle.assembly.specs.declared.Label.{Label}
-use Rattle.assembly.specs.declared.Open.{Open}
-use Rattle.assembly.specs.declared.Open.the-variants.{Nothing, Statement, Item, TypedItem}
-use Rattle.assembly.specs.Answers.{Reply}
-use Rattle.assembly.specs.Joining.{grown, accepted, fitted, judged, joined}
-use Rattle.assembly.specs.Roles.{roleOf, takes, inOrder, ends, textOf, labelOf}
-use Rattle.parts_c.specs.declared.joining.Kept.{Kept}
-use Rattle.parts_c.specs.declared.joining.Kept.the-variants as kept
-use Rattle.parts_c.specs.Joining.{openOf, openNumber, flagOf, assemblyIn, assemblyPut, keptIn}
+use Rattle.parts_join.specs.declared.Assembly.{Assembly}
+use Rattle.parts_join.specs.declared.Joined.{Joined}
+use Rattle.parts_join.specs.declared.Label.{Label}
+use Rattle.parts_join.specs.declared.Open.{Open}
+use Rattle.parts_join.specs.declared.Open.the-variants.{Nothing, Statement, Item, TypedItem}
+use Rattle.parts_join.specs.Answers.{Reply}
+use Rattle.parts_join.specs.Joining.{grown, accepted, fitted, joinedAs, joined}
+use Rattle.parts_join.specs.Roles.{roleOf, takes, inOrder, ends, textOf, labelOf}
+use Rattle.parts_c.specs.declared.joining.Meant.{Meant}
+use Rattle.parts_c.specs.declared.joining.Meant.the-variants as meant
+use Rattle.parts_c.specs.Joining.{openOf, openNumber, flagOf, assemblyIn, assemblyPut, meantBy}
 use Rattle.wire.proofs.Branches.{apart, both}
-use Rattle.demands.specs.Gatherings.{Gathering, Flag, Means, TOLD-WHAT, TOLD-LENGTH, TOLD-FORMAT, TOLD-CLASS, TOLD-TYPE, TellsReply}
 use Rattle.demands.specs.Header.{_at_}
+use Rattle.demands.specs.Gatherings.{Gathering, Flag, Means, TOLD-WHAT, TOLD-LENGTH, TOLD-FORMAT, TOLD-CLASS, TOLD-TYPE, TellsReply}
 
 pub gathering-of : (n : ℕ) → n ≤ 3 → Gathering n (openOf n)
 gathering-of zero h = Gathering.nothing
@@ -82,27 +82,27 @@ means-bytes {d} {a} m =
     (omega (arith, b .0, f), omega (arith, b .1, c), omega (arith, b .2, k))
 
 -- what the code takes is what some assembly has
-pub data Judged (d : List ℕ) : Kept → Type 0 where
-  none : ((a : Assembly) → ¬ Means d a) → Judged d kept.Nothing
-  is : {a : Assembly} → Means d a → Judged d (kept.Is a)
+pub data MeansIn (d : List ℕ) : Meant → Type 0 where
+  none : ((a : Assembly) → ¬ Means d a) → MeansIn d meant.Nothing
+  is : {a : Assembly} → Means d a → MeansIn d (meant.Is a)
 
-tested : (d : List ℕ) (lo n : ℕ) (x : Kept) → (lo < n → (a : Assembly) → ¬ Means d a) → (n ≤ lo → Judged d x) → Judged d (if (ltb lo n) kept.Nothing x)
+tested : (d : List ℕ) (lo n : ℕ) (x : Meant) → (lo < n → (a : Assembly) → ¬ Means d a) → (n ≤ lo → MeansIn d x) → MeansIn d (if (ltb lo n) meant.Nothing x)
 tested d lo n x above below = by (ltb lo n) refl
   where
-    by : (t : Bool) → ltb lo n ≡ t → Judged d (if t kept.Nothing x)
-    by true e = Judged.none (above (ltb-true lo n e))
+    by : (t : Bool) → ltb lo n ≡ t → MeansIn d (if t meant.Nothing x)
+    by true e = MeansIn.none (above (ltb-true lo n e))
     by false e = below (ltb-false lo n e)
 
-pub kept-judged : (d : List ℕ) → Judged d (keptIn d)
-unfolding keptIn
-kept-judged d =
+pub meant-means : (d : List ℕ) → MeansIn d (meantBy d)
+unfolding meantBy
+meant-means d =
     tested d 3 (getD d 0 0) _ (λ h a m. let z = gathering-few (m .what) in absurd (omega (arith, h, z))) λ what.
     tested d 1 (getD d 1 0) _ (λ h a m. let z = flag-few (m .begun) in absurd (omega (arith, h, z))) λ begun.
     tested d 1 (getD d 3 0) _ (λ h a m. let z = flag-few (m .spoilt) in absurd (omega (arith, h, z))) λ spoilt.
     tested d 255 (getD d 4 0) _ (λ h a m. let z = m .bytes .0 in absurd (omega (arith, h, z))) λ format.
     tested d 255 (getD d 5 0) _ (λ h a m. let z = m .bytes .1 in absurd (omega (arith, h, z))) λ class.
     tested d 255 (getD d 6 0) _ (λ h a m. let z = m .bytes .2 in absurd (omega (arith, h, z))) λ kind.
-    Judged.is {a = assemblyIn d} (record {
+    MeansIn.is {a = assemblyIn d} (record {
       what = gathering-of (getD d 0 0) what;
       begun = flag-of (getD d 1 0) begun;
       held = refl;
@@ -152,7 +152,7 @@ chosen false i j p q = q
 
 -- the label of the assembly behind a message is of bytes too
 pub joined-bytes : (a : Assembly) (room : ℕ) (m : Message) → Bytes (a .label) → Bytes (joined a room m .assembly .label)
-unfolding joined judged fitted Small
+unfolding joined joinedAs fitted Small
 joined-bytes a room m h =
     chosen (allowed (m .body)) _ _
     (λ ok. chosen (takes (roleOf (a .what) m)) _ _

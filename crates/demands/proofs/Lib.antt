@@ -5,6 +5,8 @@ pub mod Demand3
 pub mod Examples
 pub mod Exports
 pub mod Gatherings
+pub mod JoinCalls
+pub mod Main
 pub mod PartsCalls
 pub mod Refused
 pub mod SednaCalls

@@ -1,4 +1,5 @@
 -- What the calls of cutting and joining tell is what they mean.
+use Rattle.parts_join.specs.declared.Answer.{Answer as Joins}
 use mathlib.Core.Bool.{Bool, true, false}
 use mathlib.Core.List.{List}
 use mathlib.Core.Logic.{_⊎_, inl, inr}
@@ -7,12 +8,13 @@ use mathlib.Core.Path.{_≡_, refl, sym, ap, subst, _∙_}
 use Prim.Native.Nat.{ℕ, zero, suc, _+_, _-_, _≤_, _<_}
 use native.Mathlib.Omega.{arith}
 use lib.Dec.{eqb, ltb, leb}
-use lib.ListN.{length, drop, getElem?}
+use lib.ListN.{length, drop, set, getElem?}
 use borrow.Author.Tests.{ltb-true, ltb-false, eqb-true, eqb-false}
 use Rattle.wire.specs.Bytes.{if}
 use Rattle.wire.specs.declared.Refusal.{Refusal}
 use Rattle.wire.specs.declared.Refusal.the-variants.{ValueNotAllowed, NoRoom, NoEncoding, NoSuchPart}
-use Rattle.wire.specs.Refusals.{numberOf, refusalCode}
+use Rattle.wire.specs.Refusals.{numberOf}
+use Rattle.answer_c.specs.Codes.{refusalCode, countedCode}
 use Rattle.sedna.specs.declared.Side.{Side}
 use Rattle.sedna.specs.declared.Side.the-variants.{Client, Server}
 use Rattle.sedna.specs.Allowed.{allowed}
@@ -22,33 +24,32 @@ use Rattle.sedna_read.specs.Meaning.{bodyIn}
 use Rattle.sedna_read.specs.Places.{placesOf, located}
 use Rattle.sedna_read.specs.Reading.{Answer, reading}
 use Rattle.wire.proofs.Branches.{apart}
-use Rattle.sedna_exact.proofs.Meaning.{meaning-located}
-use Rattle.fragments.specs.Cut.{cutStatement, cutItem, cutTypedItem}
-use Rattle.fragments.specs.declared.Parts.the-variants as parts
-use Rattle.fragments.specs.Part.{pieceCount, statementParts, itemPartsFrom, urlParts, writtenOf, partWritten}
-use Rattle.fragments.proofs.Counts.{statement-counted, item-counted, typed-item-counted}
-use Rattle.fragments_exact.specs.ThroughBytes.{Uncut, cut, permitted, encodable, Slices, partAnswer}
-use Rattle.fragments_exact.proofs.PartDue.{part-due}
-use Rattle.assembly.specs.declared.Answer.{Answer as Joins}
-use Rattle.assembly.specs.declared.Answer.the-variants as answer
-use Rattle.assembly.specs.declared.Assembly.{Assembly}
-use Rattle.assembly.specs.declared.Open.{Open}
-use Rattle.assembly.specs.declared.Open.the-variants.{Nothing, Statement, Item, TypedItem}
-use Rattle.assembly.specs.Answers.{Reply, reply, bytesHanded}
-use Rattle.assembly.specs.Joining.{opened, marked, joined, stored}
-use Rattle.assembly.proofs.Refusals.{handed-inside, refusal-leaves}
-use Rattle.sedna_c.specs.Codes.{writtenCode, sideReading}
-use Rattle.parts_c.specs.declared.joining.Kept.{Kept}
-use Rattle.parts_c.specs.declared.joining.Kept.the-variants as kept
-use Rattle.parts_c.specs.Joining.{openOf, assemblyPut, keptIn, openCode, openLeft, answerCode, toldLeft, Outcome, unchanged, messageJoined, readingJoined, keptJoined, outcome}
-use Rattle.parts_c.specs.Parts.{partsCode}
-use Rattle.parts_c.proofs.Kept.{kept-same}
+use Rattle.sedna_laws.proofs.Meaning.{meaning-located}
+use Rattle.parts_cut.specs.Cut.{cutStatement, cutItem, cutTypedItem}
+use Rattle.wire.specs.declared.Counted.the-variants as parts
+use Rattle.parts_cut.specs.Part.{pieceCount, statementParts, itemPartsFrom, urlParts, writtenOf, partWritten}
+use Rattle.parts_cut.proofs.Counts.{statement-counted, item-counted, typed-item-counted}
+use Rattle.parts_laws.specs.ThroughBytes.{Uncut, cut, permitted, encodable, Slices, part}
+use Rattle.parts_laws.proofs.PartDue.{part-due}
+use Rattle.parts_join.specs.declared.Answer.the-variants as answer
+use Rattle.parts_join.specs.declared.Assembly.{Assembly}
+use Rattle.parts_join.specs.declared.Open.{Open}
+use Rattle.parts_join.specs.declared.Open.the-variants.{Nothing, Statement, Item, TypedItem}
+use Rattle.parts_join.specs.Answers.{Reply, reply, bytesHanded}
+use Rattle.parts_join.specs.Joining.{opened, joined, bufferAfter}
+use Rattle.parts_join.specs.Refusals.{spoilt}
+use Rattle.parts_join.proofs.Refusals.{handed-inside, refusal-leaves}
+use Rattle.sedna_c.specs.Codes.{sideReading}
+use Rattle.parts_c.specs.declared.joining.Meant.{Meant}
+use Rattle.parts_c.specs.declared.joining.Meant.the-variants as meant
+use Rattle.parts_c.specs.Joining.{openOf, assemblyPut, meantBy, openCode, openAfter, answerCode, toldAfter, unchanged, messageJoined, readingJoined, meantJoined, outcome}
+use Rattle.parts_c.proofs.Meant.{meant-same}
 use Rattle.demands.specs.Answered.{Answered, answered}
 use Rattle.demands.specs.Gatherings.{Gathering, Means, TOLD-LENGTH, TellsReply}
 use Rattle.demands.specs.Header.{_at_, SideOf}
-use Rattle.demands.specs.PartsCalls.{SIZES, OpenRight, Join, JoinLeft, joinCalled, untouched, Lent, Offers, replied, grownTo, JoinRight, PartCalled, PartsCalls}
+use Rattle.demands.specs.PartsCalls.{SIZES, OpenRight, Join, turned, joinCalled, untouched, Lent, Offers, refusedNumbers, replied, grownTo, JoinRight, PartCalled, PartsCalls}
 use Rattle.demands.specs.SednaCalls.{writtenAs}
-use Rattle.demands.proofs.Gatherings.{gathering-of, means-put, means-bytes, Judged, kept-judged, joined-bytes, one-assembly, one-reply}
+use Rattle.demands.proofs.Gatherings.{gathering-of, means-put, means-bytes, MeansIn, meant-means, joined-bytes, one-assembly, one-reply}
 use Rattle.demands.proofs.SednaCalls.{Sides, sides, is-client, is-server, side-read, side-nobody, write}
 use Rattle.demands.proofs.Tells.{counted, refused, read-count}
 
@@ -82,30 +83,30 @@ typed-item-parts class kind text h =
     counted (itemPartsFrom 10232 (length text)) (item-short 10232 (length text) h) ∙ ap Answered.count (sym (typed-item-counted class kind Url.absent text))
 
 typed-item-url-parts : (class kind : ℕ) (url text : List ℕ) → length text < SIZES
-    → answered (partsCode (urlParts (length text) (length url)))
+    → answered (countedCode (urlParts (length text) (length url)))
     ≡ if (leb (length url) 10227) (Answered.count (length (cutTypedItem class kind (Url.present url) text))) (Answered.refusal 11)
 typed-item-url-parts class kind url text h = by (leb (length url) 10227)
   where
-    by : (t : Bool) → answered (partsCode (if t (parts.Are (itemPartsFrom (10227 - length url) (length text))) (parts.Refused NoEncoding)))
+    by : (t : Bool) → answered (countedCode (if t (parts.Count (itemPartsFrom (10227 - length url) (length text))) (parts.Refused NoEncoding)))
         ≡ if t (Answered.count (length (cutTypedItem class kind (Url.present url) text))) (Answered.refusal 11)
     by true = counted (itemPartsFrom (10227 - length url) (length text)) (item-short (10227 - length url) (length text) h)
         ∙ ap Answered.count (sym (typed-item-counted class kind (Url.present url) text))
     by false = refused NoEncoding
 
 write-part : (ok encodable : Bool) (cut : List Message) (k room : ℕ)
-    → answered (writtenCode (partWritten ok encodable cut k room)) ≡ writtenAs (partWritten ok encodable cut k room)
+    → answered (countedCode (partWritten ok encodable cut k room)) ≡ writtenAs (partWritten ok encodable cut k room)
 write-part false encodable cut k room = refused ValueNotAllowed
 write-part true false cut k room = refused NoEncoding
 write-part true true cut k room = by (getElem? cut k)
   where
-    by : (o : Option Message) → answered (writtenCode (writtenOf room o)) ≡ writtenAs (writtenOf room o)
+    by : (o : Option Message) → answered (countedCode (writtenOf room o)) ≡ writtenAs (writtenOf room o)
     by none = refused NoSuchPart
     by (some m) = write (m .instruction) (shapeOf (m .body)) (allowed (m .body)) (length (bodyBytes (m .body))) room
 
-called : (u : Uncut) → Slices u → (k : ℕ) (out : List ℕ) → PartCalled u k out (partAnswer u k (length out))
+called : (u : Uncut) → Slices u → (k : ℕ) (out : List ℕ) → PartCalled u k out (part u k)
 called u h k out = record { answer = write-part (permitted u) (encodable u) (cut u) k (length out); due = part-due u h k out }
 
-opens : (what : ℕ) (d : List ℕ) → OpenRight what d (answered (openCode what d)) (openLeft what d)
+opens : (what : ℕ) (d : List ℕ) → OpenRight what d (answered (openCode what d)) (openAfter what d)
 opens what d = by (ltb (length d) 7) refl (eqb what 0) refl (ltb 3 what) refl
   where
     only : (n : ℕ) (o : Open) → Gathering n o → (n ≡ what) → (what ≡ 0) ⊎ (3 < what) → o ≡ Nothing
@@ -139,15 +140,11 @@ opens what d = by (ltb (length d) 7) refl (eqb what 0) refl (ltb 3 what) refl
         (OpenRight.fresh (openOf what) (assemblyPut (opened (openOf what)) d) (ltb-false (length d) 7 room) g (some-one what (openOf what) g (eqb-false what 0 p))
         (means-put (opened (openOf what)) d (omega arith, omega arith, omega arith)) refl)
 
--- an outcome, its code turned back
-abbrev turned : Outcome → JoinLeft
-turned o = record { answer = answered (o .code); assembly = o .assembly; buffer = o .buffer; told = o .told }
-
 module _ (c : Join) where
   stays : (r : Refusal) → JoinRight c (untouched (numberOf r) c) → JoinRight c (turned (unchanged r (c .assembly) (c .buffer) (c .told)))
   stays r x = rw (refused r) x
 
-  module _ (lent : Lent c) (a : Assembly) (is-kept : keptIn (c .assembly) ≡ kept.Is a) (means : Means (c .assembly) a) where
+  module _ (lent : Lent c) (a : Assembly) (is-meant : meantBy (c .assembly) ≡ meant.Is a) (means : Means (c .assembly) a) where
     module _ (s : Side) (is : SideOf (c .side) s) (m : Message) (n : ℕ) (e : reading s (c .bytes) ≡ Answer.accepted m n) where
       offers : Offers c a m n
       offers = record { lent = lent; means = means; side = s; is = is; read = e }
@@ -162,14 +159,14 @@ module _ (c : Join) where
           inside = handed-inside a (length (c .buffer)) m
 
           Goal : Joins → Type 0
-          Goal x = JoinRight c (record { answer = answered (answerCode x n); assembly = assemblyPut (grownTo c a m) (c .assembly); buffer = stored a (c .buffer) m; told = toldLeft x (c .told) })
+          Goal x = JoinRight c (record { answer = answered (answerCode x n); assembly = assemblyPut (grownTo c a m) (c .assembly); buffer = bufferAfter a (c .buffer) m; told = toldAfter x (c .told) })
 
-          took : (x : Joins) → joined a (length (c .buffer)) m .answer ≡ x → answerCode x n ≡ n → TellsReply (toldLeft x (c .told)) (reply x)
-              → toldLeft x (c .told) at TOLD-LENGTH ≡ bytesHanded (reply x) → drop 4 (toldLeft x (c .told)) ≡ drop 4 (c .told) → Goal x
+          took : (x : Joins) → joined a (length (c .buffer)) m .answer ≡ x → answerCode x n ≡ n → TellsReply (toldAfter x (c .told)) (reply x)
+              → toldAfter x (c .told) at TOLD-LENGTH ≡ bytesHanded (reply x) → drop 4 (toldAfter x (c .told)) ≡ drop 4 (c .told) → Goal x
           took x q code tells size behind =
               rw (code, read-count s (c .bytes) (c .are-bytes) m n e)
-              (JoinRight.taken a m n (assemblyPut (grownTo c a m) (c .assembly)) (toldLeft x (c .told)) offers
-              (subst (TellsReply (toldLeft x (c .told))) (sym (ap reply q)) tells)
+              (JoinRight.taken a m n (assemblyPut (grownTo c a m) (c .assembly)) (toldAfter x (c .told)) offers
+              (subst (TellsReply (toldAfter x (c .told))) (sym (ap reply q)) tells)
               (subst (λ (k : ℕ). k ≤ length (c .buffer)) (ap (λ (y : Joins). bytesHanded (reply y)) q ∙ sym size) inside)
               behind means-after refl)
 
@@ -181,12 +178,19 @@ module _ (c : Join) where
           by (answer.Refused r) q =
               let number : replied c a m ≡ Reply.number (numberOf r) = ap reply q in
               let leaves = refusal-leaves a (c .buffer) m (numberOf r) number in
-              rw (refused r, leaves .buffer) (JoinRight.refused a m n (numberOf r) (assemblyPut (grownTo c a m) (c .assembly)) offers number (mark (numberOf r) (leaves .assembly)) means-after refl)
+              rw (refused r, leaves .buffer, numbers (numberOf r) (leaves .assembly))
+              (JoinRight.refused a m n (numberOf r) offers number (subst (λ (d : List ℕ). Means d (grownTo c a m)) (numbers (numberOf r) (leaves .assembly)) means-after))
             where
-              mark : (k : ℕ) → (grownTo c a m ≡ a) ⊎ (k ≡ 12) × (grownTo c a m ≡ marked a)
-                  → (assemblyPut (grownTo c a m) (c .assembly) ≡ c .assembly) ⊎ ((k ≡ 12) × Means (assemblyPut (grownTo c a m) (c .assembly)) (marked a))
-              mark k (inl z) = inl (ap (λ (b : Assembly). assemblyPut b (c .assembly)) z ∙ kept-same (c .assembly) a (lent .0) is-kept)
-              mark k (inr z) = inr (z .0, subst (Means (assemblyPut (grownTo c a m) (c .assembly))) (z .1) means-after)
+              -- the mark is set, or all is as it was
+              numbers : (k : ℕ) → grownTo c a m ≡ if (eqb k 12) (spoilt a) a → assemblyPut (grownTo c a m) (c .assembly) ≡ refusedNumbers k (c .assembly)
+              numbers k e = ap (λ (b : Assembly). assemblyPut b (c .assembly)) e ∙ by-mark (eqb k 12)
+                where
+                  same : assemblyPut a (c .assembly) ≡ c .assembly
+                  same = meant-same (c .assembly) a (lent .0) is-meant
+
+                  by-mark : (t : Bool) → assemblyPut (if t (spoilt a) a) (c .assembly) ≡ if t (set (c .assembly) 3 1) (c .assembly)
+                  by-mark true = ap (λ (d : List ℕ). set d 3 1) same
+                  by-mark false = same
 
     by-side : (s : Side) → SideOf (c .side) s → JoinRight c (turned (readingJoined (located (reading s (c .bytes))) a (c .bytes) (c .assembly) (c .buffer) (c .told)))
     by-side s is = by (reading s (c .bytes)) refl
@@ -210,22 +214,22 @@ module _ (c : Join) where
         by (Sides.two o e) = rw (side-read (c .side) Server (c .bytes) (is-server e)) (by-side Server (is-server e))
         by (Sides.neither o p nobody) = rw (side-nobody (c .side) (c .bytes) o p) (stays ValueNotAllowed (JoinRight.nobody a lent means nobody))
 
-  join : JoinRight c (joinCalled c)
+  pub join : JoinRight c (joinCalled c)
   unfolding outcome
   join = by (ltb (length (c .assembly)) 7) refl (ltb (length (c .told)) 4) refl
     where
-      kept-so : Lent c → (k : Kept) → keptIn (c .assembly) ≡ k → Judged (c .assembly) k
-          → JoinRight c (turned (keptJoined k (sideReading (c .side) (c .bytes)) (c .bytes) (c .assembly) (c .buffer) (c .told)))
-      kept-so lent kept.Nothing e (Judged.none nobody) = stays ValueNotAllowed (JoinRight.no-assembly lent nobody)
-      kept-so lent (kept.Is a) e (Judged.is means) = with-assembly lent a e means
+      meant-so : Lent c → (k : Meant) → meantBy (c .assembly) ≡ k → MeansIn (c .assembly) k
+          → JoinRight c (turned (meantJoined k (sideReading (c .side) (c .bytes)) (c .bytes) (c .assembly) (c .buffer) (c .told)))
+      meant-so lent meant.Nothing e (MeansIn.none nobody) = stays ValueNotAllowed (JoinRight.no-assembly lent nobody)
+      meant-so lent (meant.Is a) e (MeansIn.is means) = with-assembly lent a e means
 
       by : (t : Bool) → ltb (length (c .assembly)) 7 ≡ t → (u : Bool) → ltb (length (c .told)) 4 ≡ u
           → JoinRight c (turned (if t (unchanged NoRoom (c .assembly) (c .buffer) (c .told)) (if u (unchanged NoRoom (c .assembly) (c .buffer) (c .told))
-          (keptJoined (keptIn (c .assembly)) (sideReading (c .side) (c .bytes)) (c .bytes) (c .assembly) (c .buffer) (c .told)))))
+          (meantJoined (meantBy (c .assembly)) (sideReading (c .side) (c .bytes)) (c .bytes) (c .assembly) (c .buffer) (c .told)))))
       by true p u q = stays NoRoom (JoinRight.few (inl (ltb-true (length (c .assembly)) 7 p)))
       by false p true q = stays NoRoom (JoinRight.few (inr (ltb-true (length (c .told)) 4 q)))
       by false p false q =
-          kept-so (ltb-false (length (c .assembly)) 7 p, ltb-false (length (c .told)) 4 q) (keptIn (c .assembly)) refl (kept-judged (c .assembly))
+          meant-so (ltb-false (length (c .assembly)) 7 p, ltb-false (length (c .told)) 4 q) (meantBy (c .assembly)) refl (meant-means (c .assembly))
 
 pub parts-calls : PartsCalls
 parts-calls = record {

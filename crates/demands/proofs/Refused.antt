@@ -7,16 +7,16 @@ use Prim.Native.Nat.{ℕ, _+_, _-_}
 use native.Mathlib.Omega.{arith}
 use lib.Dec.{ltb}
 use lib.ListN.{length, drop}
-use Rattle.wire.specs.Bytes.{if, placed}
+use Rattle.wire.specs.Bytes.{if}
+use Rattle.wire.specs.Call.{putAt, inRoom, outputAfter}
 use Rattle.wire.specs.Fields.{Got}
 use Rattle.wire.specs.declared.Refusal.{Refusal}
 use Rattle.wire.specs.declared.Refusal.the-variants.{MoreBytes, UnknownInstruction, ValueNotAllowed, NoRoom, BadEscape}
 use Rattle.wire.specs.Refusals.{numberOf}
-use Rattle.basex_string.specs.declared.Spelled.{Spelled}
-use Rattle.basex_string.specs.declared.Spelled.the-variants as spelled
+use Rattle.wire.specs.declared.Counted.{Counted}
+use Rattle.wire.specs.declared.Counted.the-variants as spelled
 use Rattle.basex_string.specs.declared.StringAt.the-variants as string-at
-use Rattle.basex_string.specs.Answers as strings
-use Rattle.basex_string.specs.Answers.{spelling, decoded}
+use Rattle.basex_string.specs.Answers.{decoded, outputRead}
 use Rattle.basex_string.specs.Scan as scan
 use Rattle.basex_string.specs.Strings.{string}
 use Rattle.basex_string.proofs.Laws.{refuses}
@@ -32,22 +32,22 @@ use Rattle.basex_request.proofs.Laws.{InReading, InWriting, read-refuses, write
 use Rattle.basex_response.specs.declared.Replied.the-variants as replied
 use Rattle.basex_response.specs.Reading as responses
 use Rattle.basex_response.specs.Reading.{allTexts}
-use Rattle.basex_response.specs.Writing.{inRoom, itemOf, itemWrittenAs, itemWritten, endOf, endWrittenAs, endWritten, leftAt}
-use Rattle.basex_exact.proofs.Laws.{refused-left}
-use Rattle.basex_exact.proofs.Listed.{OfFields}
-use Rattle.basex_exact.proofs.Moments.{string-moments, request-moments, item-moments, response-moments}
-use Rattle.basex_exact.proofs.Refusals.{reading-refuses}
+use Rattle.basex_response.specs.Writing.{itemOf, itemWrittenAs, itemWritten, endOf, endWrittenAs, endWritten}
+use Rattle.basex_laws.proofs.Laws.{refused-left}
+use Rattle.basex_laws.proofs.Listed.{OfFields}
+use Rattle.basex_laws.proofs.Moments.{string-moments, request-moments, item-moments, response-moments}
+use Rattle.basex_laws.proofs.Refusals.{reading-refuses}
 use Rattle.demands.specs.Demand1.{OneOf, BaseX}
 
 number : {r q : Refusal} → r ≡ q → numberOf r ≡ numberOf q
 number e = ap numberOf e
 
 string-refused : (b : List ℕ) (at : ℕ) (out : List ℕ) (to : ℕ) (r : Refusal) → decoded (length b) (length out) to (scan.reading (drop at b)) ≡ string-at.Refused r
-    → OneOf (1 ∷ 10 ∷ 13 ∷ []) (numberOf r) × (strings.left out to (scan.reading (drop at b)) ≡ out)
-unfolding placed
+    → OneOf (1 ∷ 10 ∷ 13 ∷ []) (numberOf r) × (outputRead (λ s. s) out to (scan.reading (drop at b)) ≡ out)
+unfolding putAt
 string-refused b at out to r e = by (scan.reading (drop at b)) refl e
   where
-    by : (x : Got (List ℕ)) → scan.reading (drop at b) ≡ x → decoded (length b) (length out) to x ≡ string-at.Refused r → OneOf (1 ∷ 10 ∷ 13 ∷ []) (numberOf r) × (strings.left out to x ≡ out)
+    by : (x : Got (List ℕ)) → scan.reading (drop at b) ≡ x → decoded (length b) (length out) to x ≡ string-at.Refused r → OneOf (1 ∷ 10 ∷ 13 ∷ []) (numberOf r) × (outputRead (λ s. s) out to x ≡ out)
     by (Got.refused q) p d = let z : q ≡ r = cc in (why (refuses (drop at b) r (p ∙ ap Got.refused z)), refl)
       where
         why : (r ≡ MoreBytes) ⊎ (r ≡ BadEscape) → OneOf (1 ∷ 10 ∷ 13 ∷ []) (numberOf r)
@@ -55,19 +55,19 @@ string-refused b at out to r e = by (scan.reading (drop at b)) refl e
         why (inr m) = inr (inr (inl (number m)))
     by (Got.got t rest) p d = room (ltb (length out) (to + length t)) refl d
       where
-        room : (f : Bool) → ltb (length out) (to + length t) ≡ f → if f (string-at.Refused NoRoom) (string-at.At (length t) (length b - length rest)) ≡ string-at.Refused r → OneOf (1 ∷ 10 ∷ 13 ∷ []) (numberOf r) × (placed out to t ≡ out)
+        room : (f : Bool) → ltb (length out) (to + length t) ≡ f → if f (string-at.Refused NoRoom) (string-at.At (length t) (length b - length rest)) ≡ string-at.Refused r → OneOf (1 ∷ 10 ∷ 13 ∷ []) (numberOf r) × (putAt out to t ≡ out)
         room true f d = let z : NoRoom ≡ r = cc in (inr (inl (number (sym z))), rw f refl)
         room false f d = let z : _≡_ {A = ℕ} 0 1 = cc in absurd (omega arith)
 
-string-unwritten : (out : List ℕ) (at : ℕ) (text : List ℕ) (r : Refusal) → spelling (length out) at text ≡ spelled.Refused r → OneOf (10 ∷ []) (numberOf r) × (placed out at (string text) ≡ out)
-unfolding placed
+string-unwritten : (out : List ℕ) (at : ℕ) (text : List ℕ) (r : Refusal) → inRoom (length out) at (length (string text)) ≡ spelled.Refused r → OneOf (10 ∷ []) (numberOf r) × (putAt out at (string text) ≡ out)
+unfolding putAt
 string-unwritten out at text r e = by (ltb (length out) (at + length (string text))) refl e
   where
-    by : (f : Bool) → ltb (length out) (at + length (string text)) ≡ f → if f (spelled.Refused NoRoom) (spelled.Bytes (length (string text))) ≡ spelled.Refused r → OneOf (10 ∷ []) (numberOf r) × (placed out at (string text) ≡ out)
+    by : (f : Bool) → ltb (length out) (at + length (string text)) ≡ f → if f (spelled.Refused NoRoom) (spelled.Count (length (string text))) ≡ spelled.Refused r → OneOf (10 ∷ []) (numberOf r) × (putAt out at (string text) ≡ out)
     by true f d = let z : NoRoom ≡ r = cc in (inl (number (sym z)), rw f refl)
     by false f d = let z : _≡_ {A = ℕ} 0 1 = cc in absurd (omega arith)
 
-request-refused : (s out : List ℕ) (r : Refusal) → requests.requested (length s) (length out) (requests.reading s) ≡ requested-as.Refused r → OneOf (1 ∷ 2 ∷ 10 ∷ 13 ∷ []) (numberOf r) × (requests.left out (requests.reading s) ≡ out)
+request-refused : (s out : List ℕ) (r : Refusal) → requests.requested (length s) (length out) (requests.reading s) ≡ requested-as.Refused r → OneOf (1 ∷ 2 ∷ 10 ∷ 13 ∷ []) (numberOf r) × (outputRead requests.textBytes out 0 (requests.reading s) ≡ out)
 request-refused s out r e = let x = read-refuses s out r e in (by (x .0), x .1)
   where
     by : InReading r ⊎ (r ≡ NoRoom) → OneOf (1 ∷ 2 ∷ 10 ∷ 13 ∷ []) (numberOf r)
@@ -77,7 +77,7 @@ request-refused s out r e = let x = read-refuses s out r e in (by (x .0), x .1)
     by (inr m) = inr (inr (inl (number m)))
 
 request-unwritten : (out : List ℕ) (kind : ℕ) (texts : List (List ℕ)) (r : Refusal) → requesting.written (length out) kind texts ≡ spelled.Refused r
-    → OneOf (2 ∷ 8 ∷ 10 ∷ 11 ∷ []) (numberOf r) × (requesting.left out kind texts (requesting.written (length out) kind texts) ≡ out)
+    → OneOf (2 ∷ 8 ∷ 10 ∷ 11 ∷ []) (numberOf r) × (outputAfter (requesting.written (length out) kind texts) out 0 (requesting.bytesOf kind texts) ≡ out)
 request-unwritten out kind texts r e = let x = write-refuses out kind texts r e in (by (x .0), x .1)
   where
     by : InWriting r → OneOf (2 ∷ 8 ∷ 10 ∷ 11 ∷ []) (numberOf r)
@@ -87,7 +87,7 @@ request-unwritten out kind texts r e = let x = write-refuses out kind texts r e 
     by (inr (inr (inr m))) = inr (inr (inl (number m)))
 
 response-refused : (kind : ℕ) (s out : List ℕ) (r : Refusal) → responses.answered (length s) (length out) (responses.reading kind s) ≡ replied.Refused r
-    → OneOf (1 ∷ 2 ∷ 8 ∷ 10 ∷ 13 ∷ []) (numberOf r) × (responses.left out (responses.reading kind s) ≡ out)
+    → OneOf (1 ∷ 2 ∷ 8 ∷ 10 ∷ 13 ∷ []) (numberOf r) × (outputRead responses.textBytes out 0 (responses.reading kind s) ≡ out)
 response-refused kind s out r e = (by (responses.reading kind s) refl e, refused-left kind s out r e)
   where
     why : (r ≡ UnknownInstruction) ⊎ OfFields r → OneOf (1 ∷ 2 ∷ 8 ∷ 10 ∷ 13 ∷ []) (numberOf r)
@@ -105,11 +105,11 @@ response-refused kind s out r e = (by (responses.reading kind s) refl e, refused
         room false f d = let g = rw f at d in let z : _≡_ {A = ℕ} 0 1 = cc in absurd (omega arith)
 
 -- what a written answer can be refused with
-abbrev Refuses : Spelled → Type 0
-Refuses (spelled.Bytes n) = Unit {0}
+abbrev Refuses : Counted → Type 0
+Refuses (spelled.Count n) = Unit {0}
 Refuses (spelled.Refused r) = OneOf (2 ∷ 8 ∷ 10 ∷ []) (numberOf r)
 
-either : (b : Bool) (x y : Spelled) → Refuses x → Refuses y → Refuses (if b x y)
+either : (b : Bool) (x y : Counted) → Refuses x → Refuses y → Refuses (if b x y)
 either true x y p q = p
 either false x y p q = q
 
@@ -117,10 +117,10 @@ eight : Refuses (spelled.Refused ValueNotAllowed)
 eight = inr (inl refl)
 
 in-room : (room at n : ℕ) → Refuses (inRoom room at n)
-in-room room at n = either (ltb room (at + n)) (spelled.Refused NoRoom) (spelled.Bytes n) (inr (inr (inl refl))) tt
+in-room room at n = either (ltb room (at + n)) (spelled.Refused NoRoom) (spelled.Count n) (inr (inr (inl refl))) tt
 
-refused-so : (out : List ℕ) (at : ℕ) (bytes : List ℕ) (x : Spelled) (r : Refusal) → Refuses x → x ≡ spelled.Refused r → OneOf (2 ∷ 8 ∷ 10 ∷ []) (numberOf r) × (leftAt out at bytes x ≡ out)
-refused-so out at bytes (spelled.Bytes n) r p e = let z : _≡_ {A = ℕ} 0 1 = cc in absurd (omega arith)
+refused-so : (out : List ℕ) (at : ℕ) (bytes : List ℕ) (x : Counted) (r : Refusal) → Refuses x → x ≡ spelled.Refused r → OneOf (2 ∷ 8 ∷ 10 ∷ []) (numberOf r) × (outputAfter x out at bytes ≡ out)
+refused-so out at bytes (spelled.Count n) r p e = let z : _≡_ {A = ℕ} 0 1 = cc in absurd (omega arith)
 refused-so out at bytes (spelled.Refused q) r p e = let z : q ≡ r = cc in (rw z at p, refl)
 
 item-refuses : (room at : ℕ) (f : Found) (id : ℕ) (uri text : List ℕ) → Refuses (itemWrittenAs room at f id uri text)
@@ -132,12 +132,12 @@ end-refuses room at Unknown first second status error = inl refl
 end-refuses room at (Known n reply) first second status error = either (statusAllowed status) _ _ (either (unused (ahead reply) (first ∷ second ∷ [])) _ _ (either (unused (behind reply status) (error ∷ [])) _ _ (in-room room at (length (encode reply (endOf reply first second status error)))) eight) eight) eight
 
 item-unwritten : (out : List ℕ) (at kind id : ℕ) (uri text bytes : List ℕ) (r : Refusal) → itemWritten (length out) at kind id uri text ≡ spelled.Refused r
-    → OneOf (2 ∷ 8 ∷ 10 ∷ []) (numberOf r) × (leftAt out at bytes (itemWritten (length out) at kind id uri text) ≡ out)
+    → OneOf (2 ∷ 8 ∷ 10 ∷ []) (numberOf r) × (outputAfter (itemWritten (length out) at kind id uri text) out at bytes ≡ out)
 unfolding itemWritten
 item-unwritten out at kind id uri text bytes r e = refused-so out at bytes (itemWritten (length out) at kind id uri text) r (item-refuses (length out) at (findOf kind) id uri text) e
 
 end-unwritten : (out : List ℕ) (at kind : ℕ) (first second : List ℕ) (status : ℕ) (error bytes : List ℕ) (r : Refusal) → endWritten (length out) at kind first second status error ≡ spelled.Refused r
-    → OneOf (2 ∷ 8 ∷ 10 ∷ []) (numberOf r) × (leftAt out at bytes (endWritten (length out) at kind first second status error) ≡ out)
+    → OneOf (2 ∷ 8 ∷ 10 ∷ []) (numberOf r) × (outputAfter (endWritten (length out) at kind first second status error) out at bytes ≡ out)
 unfolding endWritten
 end-unwritten out at kind first second status error bytes r e = refused-so out at bytes (endWritten (length out) at kind first second status error) r (end-refuses (length out) at (findOf kind) first second status error) e
 

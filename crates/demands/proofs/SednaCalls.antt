@@ -1,17 +1,18 @@
 -- What the calls of reading and writing tell is what they mean.
 use mathlib.Core.Bool.{Bool, true, false}
-use mathlib.Core.List.{List, _∷_}
+use mathlib.Core.List.{List, [], _∷_}
 use mathlib.Core.Option.{some}
-use mathlib.Core.Path.{_≡_, refl, sym, _∙_, subst}
+use mathlib.Core.Path.{_≡_, refl, sym, ap, _∙_, subst}
 use Prim.Native.Nat.{ℕ, _+_, _-_, _≤_}
 use native.Mathlib.Omega.{arith}
 use lib.Dec.{eqb, ltb}
 use lib.ListN.{length, drop, getElem?, length-take, length-drop}
 use borrow.Author.Tests.{le-ltb, ltb-true, ltb-false, eqb-true, eqb-false}
 use Rattle.wire.specs.Bytes.{IsBytes, if}
+use Rattle.wire.specs.Call.{inRoom, outputAfter}
 use Rattle.wire.specs.declared.Place.{Place}
 use Rattle.wire.specs.declared.Refusal.the-variants.{UnknownInstruction, ValueNotAllowed, NoRoom, NoEncoding}
-use Rattle.wire.specs.Refusals.{refusalCode}
+use Rattle.answer_c.specs.Codes.{refusalCode, countedCode}
 use Rattle.sedna.specs.declared.Fit.{Fit}
 use Rattle.sedna.specs.declared.Fit.the-variants as fit
 use Rattle.sedna.specs.declared.Found.{Found}
@@ -21,7 +22,7 @@ use Rattle.sedna.specs.declared.Shape.the-variants.{Options}
 use Rattle.sedna.specs.declared.Side.{Side}
 use Rattle.sedna.specs.declared.Side.the-variants.{Client, Server}
 use Rattle.sedna.specs.Kinds.{sameShape}
-use Rattle.sedna.specs.Encode.{pairsBytes}
+use Rattle.sedna.specs.Encode.{pairsBytes, encode}
 use Rattle.sedna.specs.Message.{Pair, Body, Message, message}
 use Rattle.sedna.specs.Table.{findOf, fitOf}
 use Rattle.sedna_read.specs.declared.OptionPlace.{OptionPlace}
@@ -31,20 +32,26 @@ use Rattle.sedna_read.specs.Meaning.{partOf, optionIn}
 use Rattle.sedna_read.specs.Places.{placesOf, located, optionAt}
 use Rattle.sedna_read.specs.Reading.{Answer, reading}
 use Rattle.sedna_read.proofs.Pairs.{option-past}
-use Rattle.sedna_write.specs.declared.Written.{Written}
-use Rattle.sedna_write.specs.declared.Written.the-variants as wrote
+use Rattle.wire.specs.declared.Counted.{Counted}
+use Rattle.wire.specs.declared.Counted.the-variants as wrote
 use Rattle.sedna_write.specs.Pairs.{pairsOf}
-use Rattle.sedna_write.specs.Writing.{judgedAs, judgement, left}
-use Rattle.sedna_c.specs.Codes.{writtenCode, sideReading, readCode, fieldsLeft, optionCode, optionLeft}
+use Rattle.sedna_write.specs.Writing.{judgementBy, judgement}
+use Rattle.sedna_c.specs.Codes.{sideReading, readCode, fieldsLeft, optionCode, optionLeft}
 use Rattle.wire.proofs.Branches.{apart}
-use Rattle.sedna_exact.proofs.Bytes.{bytes-part}
-use Rattle.sedna_exact.proofs.Due.{lacking}
-use Rattle.sedna_exact.proofs.Options.{option-exact, option-inside}
-use Rattle.sedna_exact.proofs.Table.{listed-find}
+use Rattle.sedna_laws.proofs.Bytes.{bytes-part}
+use Rattle.sedna_laws.proofs.Due.{lacking}
+use Rattle.sedna_laws.proofs.Options.{option-exact, option-inside}
+use Rattle.sedna_laws.proofs.Table.{listed-find}
 use Rattle.demands.specs.Answered.{Answered, answered}
-use Rattle.demands.specs.Header.{_at_, slice, Inside, SideOf, client, server, START-1, LENGTH-1, COUNT}
+use Rattle.demands.specs.Header.{_at_, slice, Inside, inFront, offeredBy, SideOf, client, server, START-1, LENGTH-1, COUNT}
 use Rattle.demands.specs.SednaCalls.{ReadRight, OptionRight, OptionCalled, writtenAs, ListsRefused, SednaCalls}
 use Rattle.demands.proofs.Tells.{counted, refused, read-count, tells, behind, one-message}
+
+-- what a side's number and bytes offer that read well
+pub is-offered : (bytes : List ℕ) {k : ℕ} {side : Side} {m : Message} {n : ℕ} → SideOf k side → reading side bytes ≡ Answer.accepted m n
+    → offeredBy k bytes ≡ m ∷ []
+is-offered bytes client e = ap inFront e
+is-offered bytes server e = ap inFront e
 
 -- a side's number, 1 or 2, or none
 pub data Sides (n : ℕ) : Type 0 where
@@ -133,38 +140,44 @@ options side bytes f are room s i n ps is e =
     rw (side-read side s bytes is, e, le-ltb (length f) 10 room)
     (refl, λ k lent. subst (OptionCalled bytes 8 (n - 8) k lent) (option-exact s bytes are i n ps e k) (option bytes are 8 (n - 8) k lent))
 
-judged : (x : Fit) (ok : Bool) (n room : ℕ) → answered (writtenCode (judgedAs x ok n room)) ≡ writtenAs (judgedAs x ok n room)
+roomed : (n room : ℕ) → n ≤ 10248 → answered (countedCode (inRoom room 0 n)) ≡ writtenAs (inRoom room 0 n)
+roomed n room short = by (ltb room (0 + n))
+  where
+    by : (t : Bool) → answered (countedCode (if t (wrote.Refused NoRoom) (wrote.Count n))) ≡ writtenAs (if t (wrote.Refused NoRoom) (wrote.Count n))
+    by true = refused NoRoom
+    by false = counted n (omega (arith, short))
+
+judged : (x : Fit) (ok : Bool) (n room : ℕ) → answered (countedCode (judgementBy x ok n room)) ≡ writtenAs (judgementBy x ok n room)
 judged fit.Unknown ok n room = refused UnknownInstruction
 judged fit.Other ok n room = refused ValueNotAllowed
 judged fit.Same false n room = refused ValueNotAllowed
-judged fit.Same true n room = by (ltb 10240 n) refl (ltb room (8 + n))
+judged fit.Same true n room = by (ltb 10240 n) refl
   where
-    by : (t : Bool) → ltb 10240 n ≡ t → (u : Bool) → answered (writtenCode (if t (wrote.Refused NoEncoding) (if u (wrote.Refused NoRoom) (wrote.Bytes (8 + n)))))
-        ≡ writtenAs (if t (wrote.Refused NoEncoding) (if u (wrote.Refused NoRoom) (wrote.Bytes (8 + n))))
-    by true e u = refused NoEncoding
-    by false e true = refused NoRoom
-    by false e false = let short = ltb-false 10240 n e in counted (8 + n) (omega (arith, short))
+    by : (t : Bool) → ltb 10240 n ≡ t → answered (countedCode (if t (wrote.Refused NoEncoding) (inRoom room 0 (8 + n))))
+        ≡ writtenAs (if t (wrote.Refused NoEncoding) (inRoom room 0 (8 + n)))
+    by true e = refused NoEncoding
+    by false e = roomed (8 + n) room (omega (arith, ltb-false 10240 n e))
 
-pub write : (instruction : ℕ) (shape : Shape) (ok : Bool) (n room : ℕ) → answered (writtenCode (judgement instruction shape ok n room)) ≡ writtenAs (judgement instruction shape ok n room)
+pub write : (instruction : ℕ) (shape : Shape) (ok : Bool) (n room : ℕ) → answered (countedCode (judgement instruction shape ok n room)) ≡ writtenAs (judgement instruction shape ok n room)
 unfolding judgement
 write instruction shape ok n room = judged (fitOf (findOf instruction) shape) ok n room
 
 lists-refused : (instruction n : ℕ) (out : List ℕ) (m : Message)
-    → ListsRefused instruction out (answered (writtenCode (judgement instruction Options false n (length out)))) (left out m (judgement instruction Options false n (length out)))
+    → ListsRefused instruction out (answered (countedCode (judgement instruction Options false n (length out)))) (outputAfter (judgement instruction Options false n (length out)) out 0 (encode m))
 unfolding judgement
 lists-refused instruction n out m = by (findOf instruction) refl
   where
-    Refused : Written → Type 0
-    Refused w = ListsRefused instruction out (answered (writtenCode w)) (left out m w)
+    Refused : Counted → Type 0
+    Refused w = ListsRefused instruction out (answered (countedCode w)) (outputAfter w out 0 (encode m))
 
-    by : (x : Found) → findOf instruction ≡ x → Refused (judgedAs (fitOf x Options) false n (length out))
+    by : (x : Found) → findOf instruction ≡ x → Refused (judgementBy (fitOf x Options) false n (length out))
     by Unknown e = rw (refused UnknownInstruction) (ListsRefused.unknown (lacking instruction e))
     by (Known sender own) e = shaped (sameShape own Options)
       where
         value : ListsRefused instruction out (Answered.refusal 8) out
         value = ListsRefused.value (instruction, sender, own) (listed-find instruction sender own e) refl
 
-        shaped : (t : Bool) → Refused (judgedAs (if t fit.Same fit.Other) false n (length out))
+        shaped : (t : Bool) → Refused (judgementBy (if t fit.Same fit.Other) false n (length out))
         shaped true = rw (refused ValueNotAllowed) value
         shaped false = rw (refused ValueNotAllowed) value
 

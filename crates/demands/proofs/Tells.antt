@@ -9,7 +9,8 @@ use lib.ListN.{length, take, drop, getElem?, length-append}
 use borrow.Author.Tests.{lt-ltb, le-ltb}
 use Rattle.wire.specs.Bytes.{IsBytes, if, int}
 use Rattle.wire.specs.declared.Refusal.{Refusal}
-use Rattle.wire.specs.Refusals.{numberOf, refusalCode}
+use Rattle.wire.specs.Refusals.{numberOf}
+use Rattle.answer_c.specs.Codes.{refusalCode}
 use Rattle.sedna.specs.declared.Side.{Side}
 use Rattle.sedna.specs.Encode.{string, urlBytes, bodyBytes, encode}
 use Rattle.sedna.specs.Message.{Url, Pair, Body, Message, message}
@@ -23,10 +24,10 @@ use Rattle.sedna_read.specs.Places.{placesOf, optionAt}
 use Rattle.sedna_read.specs.Reading.{Answer, reading}
 use Rattle.sedna_c.specs.Codes.{fieldsOf, optionLeft}
 use Rattle.wire.proofs.Branches.{apart}
-use Rattle.sedna_exact.proofs.Exact.{exact, front-split}
-use Rattle.sedna_exact.proofs.Meaning.{meaning-located}
-use Rattle.sedna_exact.proofs.Options.{option-exact}
-use Rattle.sedna_exact.proofs.Written.{encode-length}
+use Rattle.sedna_laws.proofs.Exact.{exact, front-split}
+use Rattle.sedna_laws.proofs.Meaning.{meaning-located}
+use Rattle.sedna_laws.proofs.Options.{option-exact}
+use Rattle.sedna_laws.proofs.Written.{encode-length}
 use Rattle.demands.specs.Answered.{Answered, REFUSED, answered}
 use Rattle.demands.specs.Header.{_at_, slice, Inside, upTo, INSTRUCTION, SHAPE, START-1, LENGTH-1, START-2, LENGTH-2, COUNT, HAS-URL, MAJOR, MINOR, FORMAT, CODE, CLASS, TYPE, URL-START, URL-LENGTH, pairTold, optionNumbers, Row, Tells}
 

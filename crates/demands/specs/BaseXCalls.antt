@@ -3,6 +3,7 @@
 --
 -- `Called` and the definitions behind it have the right sides of the contracts. For each call a record or a type says what right is, and
 -- `BaseXCalls`, at the end, that every call comes out right, whatever can be lent (`Lendable`).
+use Rattle.basex.specs.Texts.{strings as stringsBytes}
 use mathlib.Core.Bool.{Bool, true, false}
 use mathlib.Core.List.{List, [], _∷_, _++_, flatten}
 use mathlib.Core.Logic.{_⊎_}
@@ -10,13 +11,12 @@ use mathlib.Core.Path.{_≡_}
 use Prim.Native.Nat.{ℕ, zero, suc, _+_, _≤_, _<_}
 use lib.Dec.{eqb}
 use lib.ListN.{length, take, drop, getD}
-use Rattle.wire.specs.Bytes.{if, over, placed}
+use Rattle.wire.specs.Bytes.{if, splice}
+use Rattle.wire.specs.Call.{inRoom, outputAfter}
 use Rattle.wire.specs.Fields.{Got}
 use Rattle.wire.specs.declared.Refusal.{Refusal}
-use Rattle.wire.specs.declared.Refusal.the-variants.{MoreBytes, UnknownInstruction, ValueNotAllowed, NoRoom, BadEscape}
 use Rattle.wire.specs.Refusals.{numberOf}
-use Rattle.basex_string.specs.Answers as strings-left
-use Rattle.basex_string.specs.Answers.{spelling}
+use Rattle.basex_string.specs.Answers.{outputRead}
 use Rattle.basex_string.specs.Scan as strings
 use Rattle.basex_string.specs.Strings.{string}
 use Rattle.basex.specs.declared.Found.the-variants.{Known, Unknown}
@@ -26,19 +26,19 @@ use Rattle.basex.specs.Request as request
 use Rattle.basex.specs.Request.{Request}
 use Rattle.basex.specs.Response as response
 use Rattle.basex.specs.Response.{Item, Response, itemBytes, ItemAllowed, Stands, errorOf}
-use Rattle.basex.specs.Texts.{strings as stringsBytes}
 use Rattle.basex_request.specs.Calls.{padded}
 use Rattle.basex_request.specs.Reading as requests
 use Rattle.basex_request.specs.Reading.{kindOf, textsOf}
 use Rattle.basex_request.specs.Writing as requesting
 use Rattle.basex_response.specs.Reading as responses
 use Rattle.basex_response.specs.Reading.{allTexts}
-use Rattle.basex_response.specs.Writing.{itemOf, fullOf, itemWritten, endWritten, endBytes, leftAt}
-use Rattle.basex_exact.specs.Calls.{listedOf, uriOf, textOf}
-use Rattle.basex_exact.specs.Exactly.{Cut, partsOf, Means, Unwritten, MeansItem, ItemUnwritten, MeansEnd, EndUnwritten}
-use Rattle.basex_exact.specs.Moments.{Encoded, Begun, nextBytes, NextAllowed, BadId, BadItem}
+use Rattle.basex_response.specs.Writing.{itemOf, fullOf, itemWritten, endWritten, endBytes}
+use Rattle.basex_laws.specs.Calls.{listedOf, uriOf, textOf}
+use Rattle.basex_laws.specs.Exactly.{Cut, partsOf, Means, Unwritten, MeansItem, ItemUnwritten, MeansEnd, EndUnwritten}
+use Rattle.basex_laws.specs.Moments.{Encoded, Begun, nextBytes, NextAllowed, BadId, BadItem}
 use Rattle.basex_c.specs.Codes.{Outcome, code, toldIn, storedIn}
-use Rattle.basex_c.specs.Told.{spelledCode, judging, decoding, requestRead, responseRead, itemRead, errorRead}
+use Rattle.basex_c.specs.Told.{judging, decoding, requestRead, responseRead, itemRead, errorRead}
+use Rattle.answer_c.specs.Codes.{countedCode}
 use Rattle.demands.specs.Answered.{Answered, REFUSED, answered}
 
 -- a slice that can be lent: none in memory has 2^63 elements
@@ -59,13 +59,14 @@ abbrev pub stringAtCalled : List ℕ → ℕ → List ℕ → Called
 stringAtCalled s at told = telling [] [] told (judging s at (length told))
 
 abbrev pub decodeCalled : List ℕ → ℕ → List ℕ → ℕ → List ℕ → Called
-decodeCalled s at out to told = telling out (strings-left.left out to (strings.reading (drop at s))) told (decoding s at (length out) to (length told))
+decodeCalled s at out to told = telling out (outputRead (λ s. s) out to (strings.reading (drop at s))) told (decoding s at (length out) to (length told))
 
 abbrev pub readRequestCalled : List ℕ → List ℕ → List ℕ → Called
-readRequestCalled s out told = telling out (requests.left out (requests.reading s)) told (requestRead s (length out) (length told))
+readRequestCalled s out told = telling out (outputRead requests.textBytes out 0 (requests.reading s)) told (requestRead s (length out) (length told))
 
 abbrev pub readResponseCalled : ℕ → List ℕ → List ℕ → List ℕ → Called
-readResponseCalled kind s out told = telling out (responses.left out (responses.reading kind s)) told (responseRead kind s (length out) (length told))
+readResponseCalled kind s out told =
+    telling out (outputRead responses.textBytes out 0 (responses.reading kind s)) told (responseRead kind s (length out) (length told))
 
 abbrev pub itemCalled : ℕ → List ℕ → ℕ → List ℕ → Called
 itemCalled kind s at told = telling [] [] told (itemRead kind s at (length told))
@@ -78,22 +79,24 @@ abbrev pub writing : ℕ → List ℕ → Called
 writing answer out = record { answer = answered answer; out = out; told = [] }
 
 abbrev pub writeStringCalled : List ℕ → ℕ → List ℕ → Called
-writeStringCalled out at text = writing (spelledCode (spelling (length out) at text)) (placed out at (string text))
+writeStringCalled out at text =
+    writing (countedCode (inRoom (length out) at (length (string text))))
+    (outputAfter (inRoom (length out) at (length (string text))) out at (string text))
 
 abbrev pub writeRequestCalled : List ℕ → ℕ → List (List ℕ) → Called
 writeRequestCalled out kind ts =
-    writing (spelledCode (requesting.written (length out) kind ts))
-    (requesting.left out kind ts (requesting.written (length out) kind ts))
+    writing (countedCode (requesting.written (length out) kind ts))
+    (outputAfter (requesting.written (length out) kind ts) out 0 (requesting.bytesOf kind ts))
 
 abbrev pub writeItemCalled : List ℕ → ℕ → ℕ → ℕ → List ℕ → List ℕ → Called
 writeItemCalled out at kind id uri text =
-    writing (spelledCode (itemWritten (length out) at kind id uri text))
-    (leftAt out at (itemBytes (itemOf (fullOf (findOf kind)) id uri text)) (itemWritten (length out) at kind id uri text))
+    writing (countedCode (itemWritten (length out) at kind id uri text))
+    (outputAfter (itemWritten (length out) at kind id uri text) out at (itemBytes (itemOf (fullOf (findOf kind)) id uri text)))
 
 abbrev pub writeEndCalled : List ℕ → ℕ → ℕ → List ℕ → List ℕ → ℕ → List ℕ → Called
 writeEndCalled out at kind first second status error =
-    writing (spelledCode (endWritten (length out) at kind first second status error))
-    (leftAt out at (endBytes (findOf kind) first second status error) (endWritten (length out) at kind first second status error))
+    writing (countedCode (endWritten (length out) at kind first second status error))
+    (outputAfter (endWritten (length out) at kind first second status error) out at (endBytes (findOf kind) first second status error))
 
 -- "A refusal returns its number alone": everything that was lent is as it was
 abbrev pub refusedWith : Refusal → List ℕ → List ℕ → Called
@@ -107,7 +110,7 @@ pub data Right (Due : Refusal → Type 0) (Accepted : Called → Type 0) (out to
 -- the refusal that is due for a call of reading: what reading refuses, and "with 10 last" where it reads well and what it reads has no place
 pub data Unread {A : Type 0} (x : Got A) (NoPlace : A → Type 0) : Refusal → Type 0 where
   unread : (r : Refusal) → x ≡ Got.refused r → Unread x NoPlace r
-  no-room : (a : A) (rest : List ℕ) → x ≡ Got.got a rest → NoPlace a → Unread x NoPlace NoRoom
+  no-room : (a : A) (rest : List ℕ) → x ≡ Got.got a rest → NoPlace a → Unread x NoPlace Refusal.NoRoom
 
 -- an output that has no room for so many bytes, or fewer lent numbers than are told
 abbrev pub NoPlace : List ℕ → ℕ → List ℕ → ℕ → Type 0
@@ -137,7 +140,7 @@ pub record Decoded (s : List ℕ) (at : ℕ) (out : List ℕ) (to : ℕ) (told :
   pub read : StringRead s at told c
   pub fits : to + length (read .text) ≤ length out
   pub there : take (stringLength (c .told)) (drop to (c .out)) ≡ read .text
-  pub stored : c .out ≡ over out to (read .text)
+  pub stored : c .out ≡ splice out to (read .text)
 
 -- enum kdr_basex_request_field: KDR_BASEX_REQUEST_KIND, KDR_BASEX_REQUEST_LENGTH_1 to _4
 pub record RequestNumbers : Type 0 where
@@ -169,7 +172,7 @@ pub record RequestRead (s out told : List ℕ) (c : Called) : Type 0 where
   pub texts : RequestTexts (requestNumbers (c .told)) (c .out) (padded (textsOf value))
   pub fields : Fields 5 told (c .told)
   pub fits : length (flatten (textsOf value)) ≤ length out
-  pub stored : c .out ≡ over out 0 (flatten (textsOf value))
+  pub stored : c .out ≡ splice out 0 (flatten (textsOf value))
 
 -- enum kdr_basex_response_field: KDR_BASEX_RESPONSE_LENGTH_1 and _2, _ITEMS, _LISTED, _STATUS, _ERROR
 pub record ResponseNumbers : Type 0 where
@@ -198,7 +201,7 @@ pub record ResponseRead (kind : ℕ) (s out told : List ℕ) (c : Called) : Type
   pub texts : ResponseTexts (responseNumbers (c .told)) (c .out) (partsOf value)
   pub fields : Fields 6 told (c .told)
   pub fits : length (flatten (allTexts value)) ≤ length out
-  pub stored : c .out ≡ over out 0 (flatten (allTexts value))
+  pub stored : c .out ≡ splice out 0 (flatten (allTexts value))
 
 -- enum kdr_basex_error_field: KDR_BASEX_ERROR_START, _LENGTH
 pub record ErrorNumbers : Type 0 where
@@ -211,15 +214,15 @@ errorNumbers t = record { start = getD t 0 0; len = getD t 1 0 }
 -- the refusal that is due where the error is asked for, by whatever numbers are given, with so many lent
 pub data ErrorDue (kind : ℕ) (numbers : List ℕ) (lent : ℕ) : Refusal → Type 0 where
   -- 10 ahead of anything: fewer than six are given
-  too-few : length numbers < 6 → ErrorDue kind numbers lent NoRoom
+  too-few : length numbers < 6 → ErrorDue kind numbers lent Refusal.NoRoom
   -- 2: a kind that is none
-  unknown : 6 ≤ length numbers → findOf kind ≡ Unknown → ErrorDue kind numbers lent UnknownInstruction
+  unknown : 6 ≤ length numbers → findOf kind ≡ Unknown → ErrorDue kind numbers lent Refusal.UnknownInstruction
   -- "Status above 01: 8."
   bad-status : 6 ≤ length numbers → (n : ℕ) (reply : Reply) → findOf kind ≡ Known n reply → 1 < responseNumbers numbers .status
-      → ErrorDue kind numbers lent ValueNotAllowed
+      → ErrorDue kind numbers lent Refusal.ValueNotAllowed
   -- 10, last: there is an error, and fewer than two are lent
   no-room : 6 ≤ length numbers → (n : ℕ) (reply : Reply) → findOf kind ≡ Known n reply → responseNumbers numbers .status ≡ 1 → lent < 2
-      → ErrorDue kind numbers lent NoRoom
+      → ErrorDue kind numbers lent Refusal.NoRoom
 
 -- the request did not fail: 0, and nothing is told
 pub record NoError (place : List ℕ) (c : Called) : Type 0 where
@@ -240,7 +243,7 @@ ErrorAsked numbers place c =
 pub data ErrorTold (errors : List (List ℕ)) (out place : List ℕ) (c : Called) : Type 0 where
   none : errors ≡ [] → NoError place c → ErrorTold errors out place c
   -- 10: "A refusal returns its number alone"
-  no-room : (t : List ℕ) → errors ≡ t ∷ [] → length place < 2 → c ≡ refusedWith NoRoom [] place → ErrorTold errors out place c
+  no-room : (t : List ℕ) → errors ≡ t ∷ [] → length place < 2 → c ≡ refusedWith Refusal.NoRoom [] place → ErrorTold errors out place c
   one : (t : List ℕ) → errors ≡ t ∷ [] → SomeError place c
       → errorNumbers (c .told) .start + errorNumbers (c .told) .len ≤ length out
       → take (errorNumbers (c .told) .len) (drop (errorNumbers (c .told) .start) out) ≡ t → ErrorTold errors out place c
@@ -266,19 +269,19 @@ pub record Lists (kind : ℕ) (full : Bool) : Type 0 where
 -- "1 for no byte, 2, then fields left to right: 1, 8, and 13 as soon as the pair is there", "with 10 last"
 pub data ItemDue (kind : ℕ) (s : List ℕ) (numbers : ℕ) : Refusal → Type 0 where
   -- 1 for no byte, whatever the kind
-  no-byte : s ≡ [] → ItemDue kind s numbers MoreBytes
+  no-byte : s ≡ [] → ItemDue kind s numbers Refusal.MoreBytes
   -- 2 for a kind that is none, and 8 for one without items, at the first byte, whatever it is
-  unknown : 0 < length s → findOf kind ≡ Unknown → ItemDue kind s numbers UnknownInstruction
-  unlisted : 0 < length s → (n : ℕ) (reply : Reply) → findOf kind ≡ Known n reply → listed reply ≡ false → ItemDue kind s numbers ValueNotAllowed
+  unknown : 0 < length s → findOf kind ≡ Unknown → ItemDue kind s numbers Refusal.UnknownInstruction
+  unlisted : 0 < length s → (n : ℕ) (reply : Reply) → findOf kind ≡ Known n reply → listed reply ≡ false → ItemDue kind s numbers Refusal.ValueNotAllowed
   -- 1: an item, or the 00 behind the last, is begun and not whole
-  more : (full : Bool) → Lists kind full → Begun (Encoded (NextAllowed full) nextBytes) s → ItemDue kind s numbers MoreBytes
+  more : (full : Bool) → Lists kind full → Begun (Encoded (NextAllowed full) nextBytes) s → ItemDue kind s numbers Refusal.MoreBytes
   -- "a type id (7-15 or 32-83, else 8)"
-  bad-id : (full : Bool) → Lists kind full → BadId s → ItemDue kind s numbers ValueNotAllowed
+  bad-id : (full : Bool) → Lists kind full → BadId s → ItemDue kind s numbers Refusal.ValueNotAllowed
   -- 13 in one of its strings
-  bad-pair : (full : Bool) → Lists kind full → BadItem full s → ItemDue kind s numbers BadEscape
+  bad-pair : (full : Bool) → Lists kind full → BadItem full s → ItemDue kind s numbers Refusal.BadEscape
   -- 10: an item stands there, and fewer than three numbers are lent
   no-room : (full : Bool) → Lists kind full → (i : Item) (rest : List ℕ) → ItemAllowed full i → s ≡ itemBytes i ++ rest → numbers < 3
-      → ItemDue kind s numbers NoRoom
+      → ItemDue kind s numbers Refusal.NoRoom
 
 -- an item at `at`: how many bytes it takes, its id, and how long its URI and its text are
 pub record ItemRead (kind : ℕ) (s : List ℕ) (at : ℕ) (told : List ℕ) (c : Called) : Type 0 where
@@ -336,7 +339,7 @@ pub record Written (Is : List ℕ → Type 0) (out : List ℕ) (at : ℕ) (c : C
   pub is : Is bytes
   pub counted : c .answer ≡ Answered.count (length bytes)
   pub fits : at + length bytes ≤ length out
-  pub there : c .out ≡ over out at bytes
+  pub there : c .out ≡ splice out at bytes
 
 -- the encoding of the published request that a kind and texts stand for; of the item; of the response without its items
 abbrev pub RequestBytes : ℕ → List (List ℕ) → List ℕ → Type 0
@@ -353,7 +356,7 @@ pub record BaseXCalls : Type 0 where
   -- kdr_basex_string_len is never refused: for texts below 2^62 bytes its answer is a count as any other
   pub string-len : (text : List ℕ) → length text < 4611686018427387904 → answered (length (string text)) ≡ Answered.count (length (string text))
   pub write-string : (out : List ℕ) → Lendable out → (at : ℕ) (text : List ℕ)
-      → Right (λ r. (r ≡ NoRoom) × (length out < at + length (string text))) (Written (λ e. e ≡ string text) out at)
+      → Right (λ r. (r ≡ Refusal.NoRoom) × (length out < at + length (string text))) (Written (λ e. e ≡ string text) out at)
       out [] (writeStringCalled out at text)
   pub string-at : (s : List ℕ) → Lendable s → (at : ℕ) (told : List ℕ)
       → Right (Unread (strings.reading (drop at s)) (λ t. length told < 1)) (StringRead s at told)
@@ -402,7 +405,7 @@ pub record BaseXCalls : Type 0 where
   -- the items of a response that was read, walked from the front, with their texts out of the output that reading it left
   pub items-walked : (kind : ℕ) (s : List ℕ) → Lendable s → listedOf (findOf kind) ≡ true
       → (r : Response) (rest out told : List ℕ) → Stands kind r s rest → length (flatten (allTexts r)) ≤ length out → 3 ≤ length told
-      → walked (suc (length (r .items))) kind s (over out 0 (flatten (allTexts r))) told 0 0 ≡ r .items
+      → walked (suc (length (r .items))) kind s (splice out 0 (flatten (allTexts r))) told 0 0 ≡ r .items
   -- an item is told at the place where it stands, whatever is ahead of it and behind it, so also where the rest of the response has not come:
   -- one reads there exactly that item, and what comes later cannot change it; ..
   pub item-taken : (kind : ℕ) (full : Bool) → Lists kind full → (s : List ℕ) → Lendable s → (at : ℕ) (i : Item) (rest told : List ℕ)

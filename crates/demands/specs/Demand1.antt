@@ -1,10 +1,12 @@
--- Demand 1: "Every input gets a defined answer. Bad bytes, wrong order and short room are refused with the number document 01 lists, at the moment it lists and never otherwise. A refusal leaves the session record and every lent buffer unchanged, but for the spoilt mark 01 gives an overfull item or statement."
+-- Demand 1: "Every input gets a defined answer. Bad bytes, wrong order and short room are refused with the number document 01 lists, at the moment it
+-- lists and never otherwise. A refusal leaves the session record and every lent buffer unchanged, but for the spoilt mark 01 gives an overfull item or
+-- statement."
 --
 -- That every input gets the answer of a definition is what the contracts say: `sedna_read::read` answers `located (reading side bytes)`. Each
--- `sedna_write::write_..` whose arguments are a message answers `written` of it and leaves `left`; `write_options`, whose lists may not belong
--- together, answers `optionsWritten` and leaves `optionsLeft`. `session::step` returns `stepped`, `session_cell::step_lent` answers `lentAnswer` and leaves
--- `lentLeft`, each `fragments::write_.._part` answers `partWritten` and leaves `partLeft`, `assembly::join` returns `joined` and leaves `stored`,
--- and the functions of BaseX answer and leave what is named in the last record.
+-- `sedna_write::write_..` whose arguments are a message answers `written` of it and writes its `encode`; `write_options`, whose lists may not belong
+-- together, answers `optionsWritten` and writes that of `optionsMessage`. `session::step` returns `stepped`, `session_lent::step_lent` answers
+-- `lentAnswer` and leaves `lentSession`, each `parts_cut::write_.._part` writes its `CutPart`, `parts_join::join` returns `joined` and leaves
+-- `bufferAfter`, and the functions of BaseX answer and leave what is named in the last record.
 --
 -- Here stands which refusal each of them gives, and when, by the published formats; and what a refused call leaves. When a step gives 9 is demand 3's.
 use mathlib.Core.Bool.{Bool, true, false}
@@ -13,45 +15,43 @@ use mathlib.Core.Logic.{_↔_, _⊎_}
 use mathlib.Core.Path.{_≡_}
 use Prim.Native.Nat.{ℕ, _≤_}
 use lib.ListN.{length, drop}
-use Rattle.wire.specs.Bytes.{IsBytes, placed}
+use Rattle.wire.specs.Bytes.{IsBytes}
+use Rattle.wire.specs.Call.{putAt, inRoom, outputAfter}
 use Rattle.wire.specs.declared.Refusal.{Refusal}
-use Rattle.wire.specs.declared.Refusal.the-variants.{MoreBytes}
 use Rattle.wire.specs.Refusals.{numberOf}
 use Rattle.sedna.specs.declared.Side.{Side}
-use Rattle.sedna.specs.Encode.{bodyBytes}
+use Rattle.sedna.specs.Encode.{bodyBytes, encode}
 use Rattle.sedna.specs.Message.{Body, Message}
-use Rattle.sedna_read.specs.declared.Reading.the-variants as read
+use Rattle.sedna_read.specs.declared.Reading.{Reading}
 use Rattle.sedna_read.specs.Reading.{Answer, reading}
-use Rattle.sedna_write.specs.declared.Written.the-variants.{Refused}
-use Rattle.sedna_write.specs.Pairs.{sum, given, optionsWritten, optionsLeft}
-use Rattle.sedna_write.specs.Writing.{written, left}
-use Rattle.sedna_exact.specs.Due.{Due}
-use Rattle.sedna_exact.specs.Pieces.{piecesBytes, piecesOf}
-use Rattle.sedna_exact.specs.Unwritten.{Unwritten, UnwrittenLists}
+use Rattle.sedna_write.specs.Pairs.{sum, given, optionsMessage, optionsWritten}
+use Rattle.sedna_write.specs.Writing.{written}
+use Rattle.sedna_laws.specs.Due.{Due}
+use Rattle.sedna_laws.specs.Pieces.{piecesBytes, piecesOf}
+use Rattle.sedna_laws.specs.Unwritten.{Unwritten, UnwrittenLists}
 use Rattle.session.specs.declared.Session.{Session}
 use Rattle.session.specs.Step.{stepped}
-use Rattle.session_cell.specs.Lent.{lentAnswer, lentLeft}
-use Rattle.fragments_exact.specs.PartDue.{PartRight}
-use Rattle.fragments_exact.specs.ThroughBytes.{Uncut, Slices, partAnswer, partBytes}
-use Rattle.assembly.specs.declared.Assembly.{Assembly}
-use Rattle.assembly.specs.declared.Open.{Open}
-use Rattle.assembly.specs.Answers.{Reply, reply}
-use Rattle.assembly.specs.Joining.{joined}
-use Rattle.assembly.specs.Offered.{Offered}
-use Rattle.assembly.specs.Refusals.{RefusalLeaves}
-use Rattle.basex_exact.specs.Moments.{StringMoments, RequestMoments, ItemMoments, ResponseMoments}
-use Rattle.basex_string.specs.declared.Spelled.the-variants as spelled
-use Rattle.basex_string.specs.declared.StringAt.the-variants as string-at
-use Rattle.basex_string.specs.Answers as strings
-use Rattle.basex_string.specs.Answers.{spelling, decoded}
+use Rattle.session_lent.specs.Lent.{lentAnswer, lentSession}
+use Rattle.parts_laws.specs.PartDue.{PartRight}
+use Rattle.parts_laws.specs.ThroughBytes.{Uncut, Slices, part, partOutput}
+use Rattle.parts_join.specs.declared.Assembly.{Assembly}
+use Rattle.parts_join.specs.declared.Open.{Open}
+use Rattle.parts_join.specs.Answers.{Reply, reply}
+use Rattle.parts_join.specs.Joining.{joined}
+use Rattle.parts_join.specs.Offered.{Offered}
+use Rattle.parts_join.specs.Refusals.{RefusalLeaves}
+use Rattle.basex_laws.specs.Moments.{StringMoments, RequestMoments, ItemMoments, ResponseMoments}
+use Rattle.wire.specs.declared.Counted.{Counted}
+use Rattle.basex_string.specs.declared.StringAt.{StringAt}
+use Rattle.basex_string.specs.Answers.{decoded, outputRead}
 use Rattle.basex_string.specs.Scan as scan
 use Rattle.basex_string.specs.Strings.{string}
-use Rattle.basex_request.specs.declared.Requested.the-variants as requested-as
+use Rattle.basex_request.specs.declared.Requested.{Requested}
 use Rattle.basex_request.specs.Reading as requests
 use Rattle.basex_request.specs.Writing as requesting
-use Rattle.basex_response.specs.declared.Replied.the-variants as replied
+use Rattle.basex_response.specs.declared.Replied.{Replied}
 use Rattle.basex_response.specs.Reading as responses
-use Rattle.basex_response.specs.Writing.{itemWritten, endWritten, leftAt}
+use Rattle.basex_response.specs.Writing.{itemWritten, endWritten}
 
 -- one of those numbers
 abbrev pub OneOf : List ℕ → ℕ → Type 0
@@ -65,28 +65,30 @@ pub record Sedna : Type 0 where
   -- .. where the fields of a body, of which one may be wrong, are those of its encoding ..
   pub fields-encoded : (b : Body) → piecesBytes (piecesOf b) ≡ bodyBytes b
   -- .. "as soon as the byte is there": a refusal other than 1 stands, whatever bytes follow
-  pub refusal-stands : (side : Side) (s t : List ℕ) → IsBytes (s ++ t) → (r : Refusal) → ¬ (r ≡ MoreBytes) → reading side s ≡ Answer.refused r → reading side (s ++ t) ≡ Answer.refused r
+  pub refusal-stands : (side : Side) (s t : List ℕ) → IsBytes (s ++ t)
+      → (r : Refusal) → ¬ (r ≡ Refusal.MoreBytes) → reading side s ≡ Answer.refused r → reading side (s ++ t) ≡ Answer.refused r
   -- writing refuses with r exactly when `Unwritten` says so, and then leaves every byte of the lent output
-  pub writing-refused : (room : ℕ) (m : Message) (r : Refusal) → (written room m ≡ Refused r) ↔ Unwritten room m r
-  pub writing-leaves : (out : List ℕ) (m : Message) (r : Refusal) → written (length out) m ≡ Refused r → left out m (written (length out) m) ≡ out
+  pub writing-refused : (room : ℕ) (m : Message) (r : Refusal) → (written room m ≡ Counted.Refused r) ↔ Unwritten room m r
+  pub writing-leaves : (out : List ℕ) (m : Message) (r : Refusal) → written (length out) m ≡ Counted.Refused r
+      → outputAfter (written (length out) m) out 0 (encode m) ≡ out
   -- options, which the writer takes as three lists: they belong together exactly when there are as many lengths as ids, which add up to the values.
   -- Then what is written is a message (`options-written` in demand 2). Else the call is refused, with 2 or 8 as `UnwrittenLists` says, and leaves the output
   pub lists-together : (ids lengths values : List ℕ) → (given ids lengths values ≡ true) ↔ ((length ids ≡ length lengths) × (sum lengths ≡ length values))
   pub lists-refused : (room i : ℕ) (ids lengths values : List ℕ) → given ids lengths values ≡ false → (r : Refusal)
-      → (optionsWritten room i ids lengths values ≡ Refused r) ↔ UnwrittenLists i r
+      → (optionsWritten room i ids lengths values ≡ Counted.Refused r) ↔ UnwrittenLists i r
   pub lists-left : (out : List ℕ) (i : ℕ) (ids lengths values : List ℕ) → given ids lengths values ≡ false
-      → (r : Refusal) × (optionsWritten (length out) i ids lengths values ≡ Refused r)
-      × (optionsLeft out i ids lengths values (optionsWritten (length out) i ids lengths values) ≡ out)
+      → (r : Refusal) × (optionsWritten (length out) i ids lengths values ≡ Counted.Refused r)
+      × (outputAfter (optionsWritten (length out) i ids lengths values) out 0 (encode (optionsMessage i ids lengths values)) ≡ out)
   -- a refused step, of either form, leaves the session record as it was, and refuses with 1 to 9 only
-  pub step-refused : (s : Session) (side : Side) (bytes : List ℕ) (r : Refusal) → stepped s side bytes .answer ≡ read.Refused r
+  pub step-refused : (s : Session) (side : Side) (bytes : List ℕ) (r : Refusal) → stepped s side bytes .answer ≡ Reading.Refused r
       → (stepped s side bytes .session ≡ s) × (1 ≤ numberOf r) × (numberOf r ≤ 9)
-  pub lent-refused : (s : Session) (side : Side) (bytes : List ℕ) (r : Refusal) → lentAnswer s side bytes ≡ read.Refused r
-      → (lentLeft s side bytes ≡ s) × (1 ≤ numberOf r) × (numberOf r ≤ 9)
+  pub lent-refused : (s : Session) (side : Side) (bytes : List ℕ) (r : Refusal) → lentAnswer s side bytes ≡ Reading.Refused r
+      → (lentSession s side bytes ≡ s) × (1 ≤ numberOf r) × (numberOf r ≤ 9)
 
 -- cutting and joining
 pub record Parts : Type 0 where
   -- "When writing or cutting: 2, 8, 11, 14, 10": what writing part k of any cut answers, and what it leaves in the lent output
-  pub part-due : (u : Uncut) → Slices u → (k : ℕ) (out : List ℕ) → PartRight u k out (partAnswer u k (length out)) (partBytes u k out)
+  pub part-due : (u : Uncut) → Slices u → (k : ℕ) (out : List ℕ) → PartRight u k out (part u k .answer (length out)) (partOutput u k out)
   -- "When joining: 8, 9, 12": what each of any list of messages is answered after an opening, by the cuttings alone
   pub offered : (what : Open) (d : List ℕ) (offers : List Message) → Offered what d offers
   -- a refused part or end leaves the buffer, and the record but for the mark
@@ -94,26 +96,30 @@ pub record Parts : Type 0 where
 
 -- BaseX
 pub record BaseX : Type 0 where
-  -- "Order: 1 for no byte, 2, then fields left to right: 1, 8, and 13 as soon as the pair is there": which refusal reading gives, and when, by the encodings alone. When writing refuses, and a call of reading with 10, is said with what they write and tell (`WrittenExactly`, `ToldExactly`, in demand 2)
+  -- "Order: 1 for no byte, 2, then fields left to right: 1, 8, and 13 as soon as the pair is there": which refusal reading gives, and when, by the encodings
+  -- alone. When writing refuses, and a call of reading with 10, is said with what they write and tell (`WrittenExactly`, `ToldExactly`, in demand 2)
   pub string-moments : StringMoments
   pub request-moments : RequestMoments
   pub item-moments : (full : Bool) → ItemMoments full
   pub response-moments : (kind : ℕ) → ResponseMoments kind
   -- a refused call leaves every lent byte, and refuses with no other number
-  pub string-refused : (b : List ℕ) (at : ℕ) (out : List ℕ) (to : ℕ) (r : Refusal) → decoded (length b) (length out) to (scan.reading (drop at b)) ≡ string-at.Refused r
-      → OneOf (1 ∷ 10 ∷ 13 ∷ []) (numberOf r) × (strings.left out to (scan.reading (drop at b)) ≡ out)
-  pub string-unwritten : (out : List ℕ) (at : ℕ) (text : List ℕ) (r : Refusal) → spelling (length out) at text ≡ spelled.Refused r
-      → OneOf (10 ∷ []) (numberOf r) × (placed out at (string text) ≡ out)
-  pub request-refused : (s out : List ℕ) (r : Refusal) → requests.requested (length s) (length out) (requests.reading s) ≡ requested-as.Refused r
-      → OneOf (1 ∷ 2 ∷ 10 ∷ 13 ∷ []) (numberOf r) × (requests.left out (requests.reading s) ≡ out)
-  pub request-unwritten : (out : List ℕ) (kind : ℕ) (texts : List (List ℕ)) (r : Refusal) → requesting.written (length out) kind texts ≡ spelled.Refused r
-      → OneOf (2 ∷ 8 ∷ 10 ∷ 11 ∷ []) (numberOf r) × (requesting.left out kind texts (requesting.written (length out) kind texts) ≡ out)
-  pub response-refused : (kind : ℕ) (s out : List ℕ) (r : Refusal) → responses.answered (length s) (length out) (responses.reading kind s) ≡ replied.Refused r
-      → OneOf (1 ∷ 2 ∷ 8 ∷ 10 ∷ 13 ∷ []) (numberOf r) × (responses.left out (responses.reading kind s) ≡ out)
-  pub item-unwritten : (out : List ℕ) (at kind id : ℕ) (uri text bytes : List ℕ) (r : Refusal) → itemWritten (length out) at kind id uri text ≡ spelled.Refused r
-      → OneOf (2 ∷ 8 ∷ 10 ∷ []) (numberOf r) × (leftAt out at bytes (itemWritten (length out) at kind id uri text) ≡ out)
-  pub end-unwritten : (out : List ℕ) (at kind : ℕ) (first second : List ℕ) (status : ℕ) (error bytes : List ℕ) (r : Refusal) → endWritten (length out) at kind first second status error ≡ spelled.Refused r
-      → OneOf (2 ∷ 8 ∷ 10 ∷ []) (numberOf r) × (leftAt out at bytes (endWritten (length out) at kind first second status error) ≡ out)
+  pub string-refused : (b : List ℕ) (at : ℕ) (out : List ℕ) (to : ℕ) (r : Refusal)
+      → decoded (length b) (length out) to (scan.reading (drop at b)) ≡ StringAt.Refused r
+      → OneOf (1 ∷ 10 ∷ 13 ∷ []) (numberOf r) × (outputRead (λ s. s) out to (scan.reading (drop at b)) ≡ out)
+  pub string-unwritten : (out : List ℕ) (at : ℕ) (text : List ℕ) (r : Refusal) → inRoom (length out) at (length (string text)) ≡ Counted.Refused r
+      → OneOf (10 ∷ []) (numberOf r) × (putAt out at (string text) ≡ out)
+  pub request-refused : (s out : List ℕ) (r : Refusal) → requests.requested (length s) (length out) (requests.reading s) ≡ Requested.Refused r
+      → OneOf (1 ∷ 2 ∷ 10 ∷ 13 ∷ []) (numberOf r) × (outputRead requests.textBytes out 0 (requests.reading s) ≡ out)
+  pub request-unwritten : (out : List ℕ) (kind : ℕ) (texts : List (List ℕ)) (r : Refusal) → requesting.written (length out) kind texts ≡ Counted.Refused r
+      → OneOf (2 ∷ 8 ∷ 10 ∷ 11 ∷ []) (numberOf r) × (outputAfter (requesting.written (length out) kind texts) out 0 (requesting.bytesOf kind texts) ≡ out)
+  pub response-refused : (kind : ℕ) (s out : List ℕ) (r : Refusal) → responses.answered (length s) (length out) (responses.reading kind s) ≡ Replied.Refused r
+      → OneOf (1 ∷ 2 ∷ 8 ∷ 10 ∷ 13 ∷ []) (numberOf r) × (outputRead responses.textBytes out 0 (responses.reading kind s) ≡ out)
+  pub item-unwritten : (out : List ℕ) (at kind id : ℕ) (uri text bytes : List ℕ) (r : Refusal)
+      → itemWritten (length out) at kind id uri text ≡ Counted.Refused r
+      → OneOf (2 ∷ 8 ∷ 10 ∷ []) (numberOf r) × (outputAfter (itemWritten (length out) at kind id uri text) out at bytes ≡ out)
+  pub end-unwritten : (out : List ℕ) (at kind : ℕ) (first second : List ℕ) (status : ℕ) (error bytes : List ℕ) (r : Refusal)
+      → endWritten (length out) at kind first second status error ≡ Counted.Refused r
+      → OneOf (2 ∷ 8 ∷ 10 ∷ []) (numberOf r) × (outputAfter (endWritten (length out) at kind first second status error) out at bytes ≡ out)
 
 pub record Demand1 : Type 0 where
   pub sedna : Sedna

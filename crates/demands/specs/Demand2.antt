@@ -1,6 +1,8 @@
--- Demand 2: "Reading accepts exactly the messages and strings of the two published protocols under 01's readings, and writing yields the same bytes back; what was written reads as the same message. Cutting a statement or an item and joining it returns its bytes, where they fit the lent buffer."
+-- Demand 2: "Reading accepts exactly the messages and strings of the two published protocols under 01's readings, and writing yields the same bytes back;
+-- what was written reads as the same message. Cutting a statement or an item and joining it returns its bytes, where they fit the lent buffer."
 --
--- Of each protocol, and of cutting and joining, a record says so; `Demand2`, at the end, is all three. Published formats (`Published`, `encode`, `string`) and cuts know no reader and no joiner.
+-- Of each protocol, and of cutting and joining, a record says so; `Demand2`, at the end, is all three. Published formats (`Published`, `encode`, `string`)
+-- and cuts know no reader and no joiner.
 use mathlib.Core.Bool.{true}
 use mathlib.Core.List.{List, [], _∷_, _++_, map, flatten}
 use mathlib.Core.Logic.{_↔_}
@@ -9,43 +11,44 @@ use mathlib.Core.Path.{_≡_}
 use Prim.Native.Nat.{ℕ, suc, _+_, _-_, _≤_, _<_}
 use lib.Dec.{T, leb}
 use lib.ListN.{length, take, drop, getElem?}
-use Rattle.wire.specs.Bytes.{IsBytes, if, over}
+use Rattle.wire.specs.Bytes.{IsBytes, if, splice}
+use Rattle.wire.specs.Call.{outputAfter}
 use Rattle.wire.specs.Every.{Every}
 use Rattle.wire.specs.Fields.{Got}
+use Rattle.wire.specs.Call.{outputAfter}
 use Rattle.wire.specs.declared.Refusal.the-variants.{NoEncoding}
 use Rattle.sedna.specs.declared.Side.{Side}
 use Rattle.sedna.specs.declared.Side.the-variants.{Client, Server}
 use Rattle.sedna.specs.declared.Entry.{Entry}
 use Rattle.sedna.specs.declared.Shape.the-variants.{Options}
 use Rattle.sedna.specs.Allowed.{formatAllowed, allowed}
-use Rattle.sedna.specs.Encode.{bodyBytes}
+use Rattle.sedna.specs.Encode.{bodyBytes, encode}
 use Rattle.sedna.specs.Message.{Url, Pair, Body, Message, message}
 use Rattle.sedna.specs.Names.{LongQueryEnd}
 use Rattle.sedna.specs.Published.{Published, Front, Writable}
 use Rattle.sedna.specs.Table.{InTable}
-use Rattle.sedna_read.specs.declared.Places.the-variants as places
-use Rattle.sedna_read.specs.declared.Reading.the-variants as told
+use Rattle.sedna_read.specs.declared.Places.{Places}
+use Rattle.sedna_read.specs.declared.Reading.{Reading}
 use Rattle.sedna_read.specs.Meaning.{meaning, optionIn}
 use Rattle.sedna_read.specs.Places.{place, located, optionAt}
 use Rattle.sedna_read.specs.Reading.{Answer, reading}
-use Rattle.sedna_write.specs.declared.Written.the-variants as wrote
+use Rattle.wire.specs.declared.Counted.{Counted}
 use Rattle.sedna_write.specs.Pairs.{given, pairsOf, optionsWritten}
-use Rattle.sedna_write.specs.Writing.{written, left}
-use Rattle.sedna_exact.specs.Pieces.{Bounded}
+use Rattle.sedna_write.specs.Writing.{written}
+use Rattle.sedna_laws.specs.Pieces.{Bounded}
 use Rattle.grammar.specs.Grammar as grammar
 use Rattle.grammar.specs.Layout.{flatRequest, flatItem}
 use Rattle.grammar.specs.Sent.{Version, from, upTo}
-use Rattle.fragments.specs.Cut.{startRoom, cutStatement, cutItem, cutTypedItem}
-use Rattle.fragments.specs.declared.Parts.the-variants as counted
-use Rattle.fragments.specs.Part.{statementParts, itemPartsFrom, itemCount, urlParts, partWritten, partLeft}
-use Rattle.assembly.specs.declared.Open.the-variants as gathering
-use Rattle.assembly.specs.Cuttings.{Cutting, Ending, ending, messages, AllAllowed, Joins}
-use Rattle.assembly_handing.specs.Handing.{HandsOver}
-use Rattle.fragments_exact.specs.Filled.{Filled}
-use Rattle.fragments_exact.specs.Rejoined.{UrlFits, Rejoined}
-use Rattle.fragments_exact.specs.ThroughBytes.{Uncut, Sendable, Roomy, Returned}
-use Rattle.basex_string.specs.declared.Spelled.the-variants as spelled
+use Rattle.parts_cut.specs.Cut.{startRoom, cutStatement, cutItem, cutTypedItem}
+use Rattle.parts_cut.specs.Part.{statementParts, itemPartsFrom, itemCount, urlParts, partWritten}
+use Rattle.parts_join.specs.declared.Open.{Open}
+use Rattle.parts_join.specs.Cuttings.{Cutting, Ending, ending, messages, AllAllowed, Joins}
+use Rattle.parts_handing.specs.Handing.{HandsOver}
+use Rattle.parts_laws.specs.Filled.{Filled}
+use Rattle.parts_laws.specs.Rejoined.{UrlFits, Rejoined}
+use Rattle.parts_laws.specs.ThroughBytes.{Uncut, Sendable, Roomy, Returned}
 use Rattle.basex_string.specs.Scan as strings
+use Rattle.basex_string.specs.Answers.{outputRead}
 use Rattle.basex_string.specs.Strings.{string}
 use Rattle.basex.specs.declared.Found.the-variants.{Known}
 use Rattle.basex.specs.declared.Reply.{Reply}
@@ -62,8 +65,8 @@ use Rattle.basex_request.specs.Writing as requesting
 use Rattle.basex_response.specs.Reading as responses
 use Rattle.basex_response.specs.Reading.{allTexts}
 use Rattle.basex_response.specs.Writing.{fullOf}
-use Rattle.basex_exact.specs.Calls.{listedOf, handed, responded}
-use Rattle.basex_exact.specs.Exactly.{WrittenExactly, ToldExactly, InputSuffices, ErrorsExactly}
+use Rattle.basex_laws.specs.Calls.{listedOf, handed, responded}
+use Rattle.basex_laws.specs.Exactly.{WrittenExactly, ToldExactly, InputSuffices, ErrorsExactly}
 
 -- Sedna's messages, read by the side that sent them. The bytes of a slice are bytes: `IsBytes s` is no condition on a caller
 pub record Sedna : Type 0 where
@@ -73,20 +76,23 @@ pub record Sedna : Type 0 where
   pub one-message : (side : Side) (s : List ℕ) (m m′ : Message) (n n′ : ℕ)
       → Published side m × Front s m n → Published side m′ × Front s m′ n′ → (m ≡ m′) × (n ≡ n′)
   -- one encoding per message
-  pub one-encoding : (side : Side) (s s′ : List ℕ) → IsBytes s → IsBytes s′ → (m : Message) (n n′ : ℕ) → reading side s ≡ Answer.accepted m n → reading side s′ ≡ Answer.accepted m n′ → (n ≡ n′) × (take n s ≡ take n s′)
+  pub one-encoding : (side : Side) (s s′ : List ℕ) → IsBytes s → IsBytes s′ → (m : Message) (n n′ : ℕ)
+      → reading side s ≡ Answer.accepted m n → reading side s′ ≡ Answer.accepted m n′ → (n ≡ n′) × (take n s ≡ take n s′)
   -- "Bytes after the message are not touched": what stands behind does not matter
   pub behind : (side : Side) (s s′ : List ℕ) → IsBytes s → (m : Message) (n : ℕ)
       → reading side s ≡ Answer.accepted m n → take n s′ ≡ take n s → reading side s′ ≡ Answer.accepted m n
   -- what the reader answers, by the places of the fields, means what reading answers
   pub places-hold : (side : Side) (s : List ℕ) → IsBytes s → meaning s (located (reading side s)) ≡ reading side s
   -- the option number k that is handed out is the message's, and there is none beyond
-  pub options-hold : (side : Side) (s : List ℕ) → IsBytes s → (i n : ℕ) (ps : List Pair) → reading side s ≡ Answer.accepted (record { instruction = i; body = Body.options ps }) n
-      → (k : ℕ) → optionIn s (optionAt k 8 (take (n - 8) (drop 8 s))) ≡ getElem? ps k
+  pub options-hold : (side : Side) (s : List ℕ) → IsBytes s → (i n : ℕ) (ps : List Pair)
+      → reading side s ≡ Answer.accepted (message i (Body.options ps)) n → (k : ℕ) → optionIn s (optionAt k 8 (take (n - 8) (drop 8 s))) ≡ getElem? ps k
   -- and as many are told as there are
-  pub options-counted : (side : Side) (s : List ℕ) (i n : ℕ) (ps : List Pair) → reading side s ≡ Answer.accepted (message i (Body.options ps)) n → located (reading side s) ≡ told.Message i (places.Options (place 8 (n - 8)) (length ps)) n
-  -- n bytes are written exactly when a side sends m, its encoding has n bytes and they fit; by `left` they are the encoding.
+  pub options-counted : (side : Side) (s : List ℕ) (i n : ℕ) (ps : List Pair)
+      → reading side s ≡ Answer.accepted (message i (Body.options ps)) n
+      → located (reading side s) ≡ Reading.Message i (Places.Options (place 8 (n - 8)) (length ps)) n
+  -- n bytes are written exactly when a side sends m, its encoding has n bytes and they fit; by `Writes` they are the encoding.
   -- What a function is handed is u8, u32 and slices of bytes: `Bounded` is no condition on a caller
-  pub writing-exact : (room : ℕ) (m : Message) → Bounded (m .body) → (n : ℕ) → (written room m ≡ wrote.Bytes n) ↔ Writable room m n
+  pub writing-exact : (room : ℕ) (m : Message) → Bounded (m .body) → (n : ℕ) → (written room m ≡ Counted.Count n) ↔ Writable room m n
   -- options, which the writer takes as three lists: lists that belong together are written as the message with those options ..
   pub options-written : (room i : ℕ) (ids lengths values : List ℕ) → given ids lengths values ≡ true
       → optionsWritten room i ids lengths values ≡ written room (message i (Body.options (pairsOf ids lengths values)))
@@ -96,13 +102,14 @@ pub record Sedna : Type 0 where
       × (map (λ (p : Pair). length (p .value)) (pairsOf ids lengths values) ≡ lengths)
       × (flatten (map (λ (p : Pair). p .value) (pairsOf ids lengths values)) ≡ values)
   -- .. and every message's options can be given so
-  pub options-given : (ps : List Pair) → (ids : List ℕ) × (lengths : List ℕ) × (values : List ℕ) × (given ids lengths values ≡ true) × (pairsOf ids lengths values ≡ ps)
+  pub options-given : (ps : List Pair)
+      → (ids : List ℕ) × (lengths : List ℕ) × (values : List ℕ) × (given ids lengths values ≡ true) × (pairsOf ids lengths values ≡ ps)
   -- what was written reads as the same message
   pub read-written : (side : Side) (out : List ℕ) (m : Message) (n : ℕ) → Published side m
-      → written (length out) m ≡ wrote.Bytes n → reading side (left out m (wrote.Bytes n)) ≡ Answer.accepted m n
+      → written (length out) m ≡ Counted.Count n → reading side (outputAfter (Counted.Count n) out 0 (encode m)) ≡ Answer.accepted m n
   -- writing yields the same bytes back
   pub write-read : (side : Side) (s : List ℕ) → IsBytes s → (m : Message) (n : ℕ) → reading side s ≡ Answer.accepted m n → (out : List ℕ) → n ≤ length out
-      → (written (length out) m ≡ wrote.Bytes n) × (left out m (wrote.Bytes n) ≡ take n s ++ drop n out)
+      → (written (length out) m ≡ Counted.Count n) × (outputAfter (Counted.Count n) out 0 (encode m) ≡ take n s ++ drop n out)
   -- "read as 0 to 4,294,967,295": of a body of at most 10,240, being bytes (`Published.bytes`) says that its ints are at most 4,294,967,295,
   -- and its other numbers and the elements of its texts below 256
   pub bounds : (b : Body) → length (bodyBytes b) ≤ 10240 → IsBytes (bodyBytes b) ↔ Bounded b
@@ -124,14 +131,16 @@ pub record Parts : Type 0 where
   pub statement-counted : (format : ℕ) (text : List ℕ) → length (cutStatement format text) ≡ statementParts (length text)
   pub statement-edges : (statementParts 0 ≡ 1) × ((statementParts 10234 ≡ 1) × ((statementParts 10235 ≡ 3) × (statementParts 20468 ≡ 3)))
   -- "parts of 10,234 with the rest (1 to 10,234) last, then LongQueryEnd": each part but the last is full
-  pub statement-filled : (format : ℕ) (text : List ℕ) → 10234 < length text → (ms : List Message) × (cutStatement format text ≡ ms ++ (message LongQueryEnd Body.empty ∷ [])) × Filled ms
-  pub statement-rejoined : (format : ℕ) → formatAllowed format ≡ true → (d text : List ℕ) → Rejoined gathering.Statement (cutStatement format text) (format ∷ []) text d
+  pub statement-filled : (format : ℕ) (text : List ℕ) → 10234 < length text
+      → (ms : List Message) × (cutStatement format text ≡ ms ++ (message LongQueryEnd Body.empty ∷ [])) × Filled ms
+  pub statement-rejoined : (format : ℕ) → formatAllowed format ≡ true → (d text : List ℕ)
+      → Rejoined Open.Statement (cutStatement format text) (format ∷ []) text d
   -- an item up to 3.0, with either end behind its cut
   pub item-published : (text : List ℕ) → IsBytes text → Every (Published Server) (cutItem text)
   pub item-laid-out : (v : Version) → T (upTo 3 v) → (text : List ℕ) → IsBytes text → (i : grammar.Item v) × (flatItem i ≡ cutItem text)
   pub item-counted : (text : List ℕ) → length (cutItem text) ≡ itemCount (length text)
   pub item-filled : (text : List ℕ) → Filled (cutItem text)
-  pub item-rejoined : (text : List ℕ) (e : Ending) (d : List ℕ) → Rejoined gathering.Item (cutItem text ++ (ending e ∷ [])) [] text d
+  pub item-rejoined : (text : List ℕ) (e : Ending) (d : List ℕ) → Rejoined Open.Item (cutItem text ++ (ending e ∷ [])) [] text d
   -- an item of 4.0, URL or none
   pub typed-published : (class kind : ℕ) (url : Url) (text : List ℕ) → allowed (Body.item class kind url text) ≡ true
       → Bounded (Body.item class kind url text) → UrlFits url → Every (Published Server) (cutTypedItem class kind url text)
@@ -141,12 +150,15 @@ pub record Parts : Type 0 where
   pub typed-filled : (class kind : ℕ) (url : Url) (text : List ℕ) → UrlFits url → Filled (cutTypedItem class kind url text)
   -- "(u above 10,227: 11)": then an ItemStart with the URL has no encoding, not even with no text, and there is no cut to count
   pub url-fits : (class kind : ℕ) (url : Url) → UrlFits url ↔ (length (bodyBytes (Body.item class kind url [])) ≤ 10240)
-  pub url-counted : (class kind : ℕ) (url text : List ℕ) → urlParts (length text) (length url) ≡ if (leb (length url) 10227) (counted.Are (length (cutTypedItem class kind (Url.present url) text))) (counted.Refused NoEncoding)
+  pub url-counted : (class kind : ℕ) (url text : List ℕ) → urlParts (length text) (length url)
+      ≡ if (leb (length url) 10227) (Counted.Count (length (cutTypedItem class kind (Url.present url) text))) (Counted.Refused NoEncoding)
   pub typed-rejoined : (class kind : ℕ) (url : Url) (text : List ℕ) → allowed (Body.item class kind url text) ≡ true → (e : Ending) (d : List ℕ)
-      → Rejoined gathering.TypedItem (cutTypedItem class kind url text ++ (ending e ∷ [])) (class ∷ kind ∷ []) text d
-  -- through bytes: part k of a cut that was written and read back, by the places that the reader tells, is the cut's message k, which is what `assembly::join` is given
-  pub part-read : (side : Side) (cut : List Message) → Every (Published side) cut → (k : ℕ) (m : Message) → getElem? cut k ≡ some m → (out : List ℕ) (n : ℕ) → partWritten true true cut k (length out) ≡ wrote.Bytes n
-      → meaning (partLeft out (some m) (wrote.Bytes n)) (located (reading side (partLeft out (some m) (wrote.Bytes n)))) ≡ Answer.accepted m n
+      → Rejoined Open.TypedItem (cutTypedItem class kind url text ++ (ending e ∷ [])) (class ∷ kind ∷ []) text d
+  -- through bytes: part k of a cut that was written and read back, by the places that the reader tells, is the cut's message k, which is what
+  -- `parts_join::join` is given
+  pub part-read : (side : Side) (cut : List Message) → Every (Published side) cut → (k : ℕ) (m : Message) → getElem? cut k ≡ some m
+      → (out : List ℕ) (n : ℕ) → partWritten true true cut k (length out) ≡ Counted.Count n
+      → meaning (outputAfter (Counted.Count n) out 0 (encode m)) (located (reading side (outputAfter (Counted.Count n) out 0 (encode m)))) ≡ Answer.accepted m n
   -- all of it at once: what is cut, written part by part into outputs with room, read by its side, and joined in order is returned where it fits the
   -- buffer; where it does not, 12. Outputs of 10,248 bytes always have room
   pub returned : (u : Uncut) → Sendable u → (outs : ℕ → List ℕ) → Roomy u outs → (d : List ℕ) → Returned u outs d
@@ -162,35 +174,48 @@ pub record BaseX : Type 0 where
   -- a string has one encoding
   pub one-string : (s t rest more : List ℕ) → string s ++ rest ≡ string t ++ more → (s ≡ t) × (rest ≡ more)
   -- a request is read exactly where it is published and its encoding stands in front
-  pub request-exact : (s : List ℕ) (q : Request) (rest : List ℕ) → (requests.reading s ≡ Got.got q rest) ↔ (request.Published q × (s ≡ request.encode q ++ rest))
+  pub request-exact : (s : List ℕ) (q : Request) (rest : List ℕ)
+      → (requests.reading s ≡ Got.got q rest) ↔ (request.Published q × (s ≡ request.encode q ++ rest))
   -- one encoding per request, and no request's is the start of another's
-  pub one-request : (q p : Request) (rest more : List ℕ) → request.Published q → request.Published p → request.encode q ++ rest ≡ request.encode p ++ more → (q ≡ p) × (rest ≡ more)
+  pub one-request : (q p : Request) (rest more : List ℕ) → request.Published q → request.Published p → request.encode q ++ rest ≡ request.encode p ++ more
+      → (q ≡ p) × (rest ≡ more)
   -- what stands behind does not matter
-  pub request-behind : (s : List ℕ) (q : Request) (rest other : List ℕ) → requests.reading s ≡ Got.got q rest → requests.reading (take (length s - length rest) s ++ other) ≡ Got.got q other
+  pub request-behind : (s : List ℕ) (q : Request) (rest other : List ℕ) → requests.reading s ≡ Got.got q rest
+      → requests.reading (take (length s - length rest) s ++ other) ≡ Got.got q other
   -- what was written reads as the same request
   pub request-read-written : (q : Request) → request.Published q → (out : List ℕ) → length (request.encode q) ≤ length out
-      → (requesting.written (length out) (kindOf q) (padded (textsOf q)) ≡ spelled.Bytes (length (request.encode q)))
-      × (requests.reading (requesting.left out (kindOf q) (padded (textsOf q)) (requesting.written (length out) (kindOf q) (padded (textsOf q)))) ≡ Got.got q (drop (length (request.encode q)) out))
+      → (requesting.written (length out) (kindOf q) (padded (textsOf q)) ≡ Counted.Count (length (request.encode q)))
+      × (requests.reading
+      (outputAfter (requesting.written (length out) (kindOf q) (padded (textsOf q))) out 0 (requesting.bytesOf (kindOf q) (padded (textsOf q))))
+      ≡ Got.got q (drop (length (request.encode q)) out))
   -- writing yields the same bytes back: what a call of reading told, of the texts in its output, is written as the n bytes that it read
-  pub request-write-read : (s out : List ℕ) (kind a b c d n : ℕ) → requested (length s) (length out) (requests.reading s) ≡ Read kind a b c d n → (to : List ℕ) → n ≤ length to
-      → (requesting.written (length to) kind (cut (requests.left out (requests.reading s)) a b c d) ≡ spelled.Bytes n)
-      × (requesting.left to kind (cut (requests.left out (requests.reading s)) a b c d) (requesting.written (length to) kind (cut (requests.left out (requests.reading s)) a b c d)) ≡ over to 0 (take n s))
+  pub request-write-read : (s out : List ℕ) (kind a b c d n : ℕ) → requested (length s) (length out) (requests.reading s) ≡ Read kind a b c d n → (to : List ℕ)
+      → n ≤ length to
+      → (requesting.written (length to) kind (cut (outputRead requests.textBytes out 0 (requests.reading s)) a b c d) ≡ Counted.Count n)
+      × (outputAfter (requesting.written (length to) kind (cut (outputRead requests.textBytes out 0 (requests.reading s)) a b c d)) to 0
+      (requesting.bytesOf kind (cut (outputRead requests.textBytes out 0 (requests.reading s)) a b c d)) ≡ splice to 0 (take n s))
   -- a response is read, knowing the request's first byte, exactly where it is published for it and its encoding stands in front
   pub response-exact : (kind : ℕ) (s : List ℕ) (r : Response) (rest : List ℕ) → (responses.reading kind s ≡ Got.got r rest) ↔ Stands kind r s rest
   -- one response per byte string
   pub one-response : (kind : ℕ) (s : List ℕ) (r q : Response) (rest more : List ℕ) → Stands kind r s rest → Stands kind q s more → (r ≡ q) × (rest ≡ more)
-  pub response-behind : (kind : ℕ) (s : List ℕ) (r : Response) (rest other : List ℕ) → responses.reading kind s ≡ Got.got r rest → responses.reading kind (take (length s - length rest) s ++ other) ≡ Got.got r other
+  pub response-behind : (kind : ℕ) (s : List ℕ) (r : Response) (rest other : List ℕ) → responses.reading kind s ≡ Got.got r rest
+      → responses.reading kind (take (length s - length rest) s ++ other) ≡ Got.got r other
   -- item by item and then the rest, a published response is written as its encoding ..
-  pub response-written : (kind n : ℕ) (reply : Reply) → findOf kind ≡ Known n reply → (r : Response) → response.Published reply r → (out : List ℕ) (at : ℕ) → at + length (response.encode reply r) ≤ length out
-      → responded kind r (record { bytes = out; at = at }) ≡ record { bytes = over out at (response.encode reply r); at = at + length (response.encode reply r) }
+  pub response-written : (kind n : ℕ) (reply : Reply) → findOf kind ≡ Known n reply → (r : Response) → response.Published reply r → (out : List ℕ) (at : ℕ)
+      → at + length (response.encode reply r) ≤ length out
+      → responded kind r (record { bytes = out; at = at })
+      ≡ record { bytes = splice out at (response.encode reply r); at = at + length (response.encode reply r) }
   -- .. which reads as the same response
-  pub response-read-written : (kind n : ℕ) (reply : Reply) → findOf kind ≡ Known n reply → (r : Response) → response.Published reply r → (rest : List ℕ) → responses.reading kind (response.encode reply r ++ rest) ≡ Got.got r rest
+  pub response-read-written : (kind n : ℕ) (reply : Reply) → findOf kind ≡ Known n reply → (r : Response) → response.Published reply r → (rest : List ℕ)
+      → responses.reading kind (response.encode reply r ++ rest) ≡ Got.got r rest
   -- writing yields the same bytes back
-  pub response-write-read : (kind : ℕ) (s : List ℕ) (r : Response) (rest : List ℕ) → responses.reading kind s ≡ Got.got r rest → (out : List ℕ) → length s - length rest ≤ length out
-      → responded kind r (record { bytes = out; at = 0 }) ≡ record { bytes = over out 0 (take (length s - length rest) s); at = length s - length rest }
+  pub response-write-read : (kind : ℕ) (s : List ℕ) (r : Response) (rest : List ℕ) → responses.reading kind s ≡ Got.got r rest → (out : List ℕ)
+      → length s - length rest ≤ length out
+      → responded kind r (record { bytes = out; at = 0 }) ≡ record { bytes = splice out 0 (take (length s - length rest) s); at = length s - length rest }
   -- every item of a response that was read is handed out, in order, with its id, URI and text, however many there are
-  pub items-handed : (kind : ℕ) (s : List ℕ) (r : Response) (rest out : List ℕ) → listedOf (findOf kind) ≡ true → responses.reading kind s ≡ Got.got r rest → length (flatten (allTexts r)) ≤ length out
-      → handed (suc (length (r .items))) (fullOf (findOf kind)) s (responses.left out (responses.reading kind s)) 0 0 ≡ r .items
+  pub items-handed : (kind : ℕ) (s : List ℕ) (r : Response) (rest out : List ℕ) → listedOf (findOf kind) ≡ true → responses.reading kind s ≡ Got.got r rest
+      → length (flatten (allTexts r)) ≤ length out
+      → handed (suc (length (r .items))) (fullOf (findOf kind)) s (outputRead responses.textBytes out 0 (responses.reading kind s)) 0 0 ≡ r .items
   -- an output as long as the input has room for every text
   pub input-suffices : InputSuffices
   -- "with status 01 the last string is the error"

@@ -13,11 +13,11 @@ use Prim.Native.Nat.{ℕ, _<_}
 use lib.Dec.{T}
 use lib.ListN.{length}
 use Rattle.wire.specs.Bytes.{IsBytes}
+use Rattle.wire.specs.Calls.{Done, recordAfter, keptAfter, AllRight}
 use Rattle.wire.specs.Every.{Every}
 use Rattle.wire.specs.declared.Refusal.{Refusal}
 use Rattle.wire.specs.Refusals.{numberOf}
 use Rattle.sedna.specs.declared.Side.{Side}
-use Rattle.sedna.specs.declared.Side.the-variants.{Client, Server}
 use Rattle.sedna.specs.Message.{Body, Message, message}
 use Rattle.sedna.specs.Names.{ErrorResponse}
 use Rattle.sedna.specs.Published.{Published}
@@ -26,11 +26,11 @@ use Rattle.sedna_read.specs.Reading.{Answer, reading}
 use Rattle.grammar.specs.Conversation.{Whole, Begins}
 use Rattle.grammar.specs.Grammar.{Conversation}
 use Rattle.grammar.specs.Layout.{flat}
-use Rattle.grammar.specs.Sent.{published}
+use Rattle.grammar.specs.Sent.{canSend}
 use Rattle.grammar.specs.Turn.{HasTurn}
 use Rattle.session.specs.declared.Session.{Session}
 use Rattle.session.specs.Step.{freshSession, stepped, closedOf, turnOf, sideOf}
-use Rattle.session_cell.specs.Lent.{lentAnswer, lentLeft}
+use Rattle.session_lent.specs.Lent.{lentAnswer, lentSession}
 
 -- "Besides the form by value, a step updates the session record where the gateway keeps it"
 pub data Form : Type 0 where
@@ -44,63 +44,46 @@ pub record Offer : Type 0 where
   pub are-bytes : IsBytes bytes
 
 -- the right answer to an offer, given the messages accepted before it
-pub data Right (before : List Message) (o : Offer) : Answer → Type 0 where
+pub data RightAnswer (before : List Message) (o : Offer) : Answer → Type 0 where
   -- "A message that 01's order of reading refuses ahead of its 9 got that refusal."
-  unread : {r : Refusal} → reading (o .side) (o .bytes) ≡ Answer.refused r → Right before o (Answer.refused r)
+  unread : {r : Refusal} → reading (o .side) (o .bytes) ≡ Answer.refused r → RightAnswer before o (Answer.refused r)
   -- "Any other was refused, and then with 9, exactly when no conversation begins with those accepted before it followed by it."
   out-of-order : {m : Message} {n : ℕ} {r : Refusal} → reading (o .side) (o .bytes) ≡ Answer.accepted m n → ¬ Begins (before ++ (m ∷ [])) → numberOf r ≡ 9
-      → Right before o (Answer.refused r)
+      → RightAnswer before o (Answer.refused r)
   -- "a step that accepts answers that message and the number of bytes read"
-  accepted : {m : Message} {n : ℕ} → reading (o .side) (o .bytes) ≡ Answer.accepted m n → Begins (before ++ (m ∷ [])) → Right before o (Answer.accepted m n)
+  accepted : {m : Message} {n : ℕ} → reading (o .side) (o .bytes) ≡ Answer.accepted m n → Begins (before ++ (m ∷ []))
+      → RightAnswer before o (Answer.accepted m n)
 
 -- the accepted messages, in their order
-abbrev pub messages : List Answer → List Message
-messages [] = []
-messages (Answer.refused r ∷ answers) = messages answers
-messages (Answer.accepted m n ∷ answers) = m ∷ messages answers
+abbrev pub accepting : List Message → Offer → Answer → List Message
+accepting before o (Answer.refused r) = before
+accepting before o (Answer.accepted m n) = before ++ (m ∷ [])
 
--- each offer of a list, one after another, got the right answer
-abbrev pub Judged : List Message → List Offer → List Answer → Type 0
-Judged before [] [] = Unit {0}
-Judged before [] (a ∷ answers) = ⊥
-Judged before (o ∷ offers) [] = ⊥
-Judged before (o ∷ offers) (a ∷ answers) = Right before o a × Judged (before ++ messages (a ∷ [])) offers answers
+-- of a session whose step does so much to its record ("each step gets the record that the last one returned or left, and nobody else writes that record
+-- meanwhile"): what holds after a list of offers
+module _ (Record : Type 0) (does : Record → Offer → Done Record Answer) where
+  abbrev pub acceptedFrom : Record → List Offer → List Message
+  acceptedFrom = keptAfter does accepting []
 
--- what a step does to a session record: the one that it returned or left, and its answer
-pub record Done (Record : Type 0) : Type 0 where
-  pub session : Record
-  pub answer : Answer
-
-module _ (Record : Type 0) (step : Record → Offer → Done Record) where
-  -- "each step gets the record that the last one returned or left, and nobody else writes that record meanwhile"
-  abbrev pub answersFrom : Record → List Offer → List Answer
-  answersFrom s [] = []
-  answersFrom s (o ∷ offers) = step s o .answer ∷ answersFrom (step s o .session) offers
-
-  abbrev pub left : Record → List Offer → Record
-  left s [] = s
-  left s (o ∷ offers) = left (step s o .session) offers
-
-  -- what holds after a list of offers
   pub record After (fresh : Record) (closed : Record → Bool) (turn : Record → Option Side) (offers : List Offer) : Type 0 where
     -- "The accepted messages, in their order, begin a conversation of document 01's grammar": so every list accepted so far can be finished
-    pub begun : Begins (messages (answersFrom fresh offers))
+    pub begun : Begins (acceptedFrom fresh offers)
     -- what each offer got
-    pub judged : Judged [] offers (answersFrom fresh offers)
+    pub judged : AllRight does accepting (λ before s o done. RightAnswer before o (done .answer)) [] fresh offers
     -- "The session reports itself closed exactly when the accepted ones are a whole conversation."
-    pub whole : (closed (left fresh offers) ≡ true) ↔ Whole (messages (answersFrom fresh offers))
+    pub whole : (closed (recordAfter does fresh offers) ≡ true) ↔ Whole (acceptedFrom fresh offers)
     -- "Messages alternate by turn": the session tells who has it then, if any side has
-    pub turned : HasTurn (messages (answersFrom fresh offers)) (turn (left fresh offers))
+    pub turned : HasTurn (acceptedFrom fresh offers) (turn (recordAfter does fresh offers))
 
--- a step of either form, as its contract says: `session::step` returns `stepped`; `session_cell::step_lent` answers `lentAnswer` and leaves `lentLeft`.
+-- a step of either form, as its contract says: `session::step` returns `stepped`; `session_lent::step_lent` answers `lentAnswer` and leaves `lentSession`.
 -- An answer by places means the message with the bytes at them
-abbrev pub performed : Form → Session → Offer → Done Session
+abbrev pub performed : Form → Session → Offer → Done Session Answer
 performed Form.by-value s o =
-    record { session = stepped s (o .side) (o .bytes) .session; answer = meaning (o .bytes) (stepped s (o .side) (o .bytes) .answer) }
+    record { record-after = stepped s (o .side) (o .bytes) .session; answer = meaning (o .bytes) (stepped s (o .side) (o .bytes) .answer) }
 performed Form.lent s o =
-    record { session = lentLeft s (o .side) (o .bytes); answer = meaning (o .bytes) (lentAnswer s (o .side) (o .bytes)) }
+    record { record-after = lentSession s (o .side) (o .bytes); answer = meaning (o .bytes) (lentAnswer s (o .side) (o .bytes)) }
 
-abbrev pub step : Session → Offer → Done Session
+abbrev pub step : Session → Offer → Done Session Answer
 step s o = performed (o .form) s o
 
 -- what `session::whose_turn` answers
@@ -115,15 +98,15 @@ pub record Demand3 : Type 1 where
   -- "After the end every message gets 9 where no refusal ahead of 9 meets it": no conversation goes on behind a whole one
   pub ended : (l : List Message) (m : Message) → Whole l → ¬ Begins (l ++ (m ∷ []))
   -- the grammar's messages are the codec's: a body can be sent with an instruction exactly when some side publishes the message
-  pub payloads : (k : ℕ) (b : Body) → T (published k b) ↔ ((side : Side) × Published side (message k b))
+  pub payloads : (k : ℕ) (b : Body) → T (canSend k b) ↔ ((side : Side) × Published side (message k b))
   -- so a list that begins a conversation has no message that nobody can send
   pub sendable : (l : List Message) → Begins l → Every (λ (m : Message). (side : Side) × Published side m) l
   -- "Messages alternate by turn": behind messages that begin a conversation one side has the turn, and one only, or the conversation is over
   pub turn : (l : List Message) → Begins l → (t : Option Side) × HasTurn l t
   pub one-turn : (l : List Message) (t u : Option Side) → HasTurn l t → HasTurn l u → t ≡ u
   -- "ErrorResponse: where the client has the turn (after StartUp) it ends the conversation."
-  pub broken-off : (l : List Message) (m : Message) → Published Server m → m .instruction ≡ ErrorResponse
-      → 0 < length l → HasTurn l (some Client) → Whole (l ++ (m ∷ []))
+  pub broken-off : (l : List Message) (m : Message) → Published Side.Server m → m .instruction ≡ ErrorResponse
+      → 0 < length l → HasTurn l (some Side.Client) → Whole (l ++ (m ∷ []))
   -- "Where the server has it, …": it is an answer wherever that is
-  pub error-answers : (l : List Message) (m : Message) → Published Server m → m .instruction ≡ ErrorResponse
-      → HasTurn l (some Server) → Begins (l ++ (m ∷ []))
+  pub error-answers : (l : List Message) (m : Message) → Published Side.Server m → m .instruction ≡ ErrorResponse
+      → HasTurn l (some Side.Server) → Begins (l ++ (m ∷ []))

@@ -3,17 +3,14 @@ use mathlib.Core.List.{List, [], _∷_, map}
 use mathlib.Core.Path.{_≡_}
 use Prim.Native.Nat.{ℕ, _-_}
 use lib.ListN.{length, take}
-use Rattle.wire.specs.Bytes.{placed}
+use Rattle.wire.specs.Call.{putAt, inRoom}
 use Rattle.wire.specs.Fields.{Got}
 use Rattle.wire.specs.Refusals.{numberOf}
 use Rattle.sedna.specs.declared.Side.{Side}
-use Rattle.sedna.specs.declared.Side.the-variants.{Client, Server}
 use Rattle.sedna.specs.Message.{Body, Message}
 use Rattle.sedna.specs.Names.{StartUp, Execute}
 use Rattle.sedna_read.specs.Reading.{Answer, reading}
-use Rattle.basex_string.specs.declared.Spelled.{Spelled}
-use Rattle.basex_string.specs.declared.Spelled.the-variants.{Bytes, Refused}
-use Rattle.basex_string.specs.Answers.{spelling}
+use Rattle.wire.specs.declared.Counted.{Counted}
 use Rattle.basex_string.specs.Scan as strings
 use Rattle.basex_string.specs.Strings.{string}
 
@@ -35,9 +32,9 @@ sednaReply (Answer.refused r) = Reply.number (numberOf r)
 sednaReply (Answer.accepted m n) = Reply.message m n
 
 -- what stands in front of the output, where so many bytes were written
-abbrev pub writtenReply : List ℕ → Spelled → Reply
-writtenReply out (Refused r) = Reply.number (numberOf r)
-writtenReply out (Bytes n) = Reply.bytes (take n out)
+abbrev pub writtenReply : List ℕ → Counted → Reply
+writtenReply out (Counted.Refused r) = Reply.number (numberOf r)
+writtenReply out (Counted.Count n) = Reply.bytes (take n out)
 
 abbrev pub readReply : ℕ → Got (List ℕ) → Reply
 readReply n (Got.refused r) = Reply.number (numberOf r)
@@ -49,7 +46,7 @@ blank = 0xEE ∷ 0xEE ∷ 0xEE ∷ 0xEE ∷ 0xEE ∷ 0xEE ∷ 0xEE ∷ 0xEE ∷ 
 
 abbrev pub reply : Question → Reply
 reply (Question.sedna side s) = sednaReply (reading side s)
-reply (Question.basexWrite t) = writtenReply (placed blank 0 (string t)) (spelling (length blank) 0 t)
+reply (Question.basexWrite t) = writtenReply (putAt blank 0 (string t)) (inRoom (length blank) 0 (length (string t)))
 reply (Question.basexRead s) = readReply (length s) (strings.reading s)
 
 pub record Example : Type 0 where
@@ -65,28 +62,29 @@ refuse side s n = read side s (Reply.number n)
 unfoldable pub table : List Example
 table =
     -- nothing; seven bytes: 1; 1
-    refuse Client [] 1 ∷
-    refuse Client (0 ∷ 0 ∷ 0 ∷ 0x6E ∷ 0 ∷ 0 ∷ 0 ∷ []) 1 ∷
+    refuse Side.Client [] 1 ∷
+    refuse Side.Client (0 ∷ 0 ∷ 0 ∷ 0x6E ∷ 0 ∷ 0 ∷ 0 ∷ []) 1 ∷
     -- client 0000006E 00000000: StartUp, 8 read
-    read Client (0 ∷ 0 ∷ 0 ∷ 0x6E ∷ 0 ∷ 0 ∷ 0 ∷ 0 ∷ []) (Reply.message (record { instruction = StartUp; body = Body.empty }) 8) ∷
+    read Side.Client (0 ∷ 0 ∷ 0 ∷ 0x6E ∷ 0 ∷ 0 ∷ 0 ∷ 0 ∷ []) (Reply.message (record { instruction = StartUp; body = Body.empty }) 8) ∷
     -- the same from the server: 3
-    refuse Server (0 ∷ 0 ∷ 0 ∷ 0x6E ∷ 0 ∷ 0 ∷ 0 ∷ 0 ∷ []) 3 ∷
+    refuse Side.Server (0 ∷ 0 ∷ 0 ∷ 0x6E ∷ 0 ∷ 0 ∷ 0 ∷ 0 ∷ []) 3 ∷
     -- client 0000006E 00000001 78: 7
-    refuse Client (0 ∷ 0 ∷ 0 ∷ 0x6E ∷ 0 ∷ 0 ∷ 0 ∷ 1 ∷ 0x78 ∷ []) 7 ∷
+    refuse Side.Client (0 ∷ 0 ∷ 0 ∷ 0x6E ∷ 0 ∷ 0 ∷ 0 ∷ 1 ∷ 0x78 ∷ []) 7 ∷
     -- client 00000065 00000000: 2
-    refuse Client (0 ∷ 0 ∷ 0 ∷ 0x65 ∷ 0 ∷ 0 ∷ 0 ∷ 0 ∷ []) 2 ∷
+    refuse Side.Client (0 ∷ 0 ∷ 0 ∷ 0x65 ∷ 0 ∷ 0 ∷ 0 ∷ 0 ∷ []) 2 ∷
     -- server 00000168 00002801: 4
-    refuse Server (0 ∷ 0 ∷ 1 ∷ 0x68 ∷ 0 ∷ 0 ∷ 0x28 ∷ 1 ∷ []) 4 ∷
+    refuse Side.Server (0 ∷ 0 ∷ 1 ∷ 0x68 ∷ 0 ∷ 0 ∷ 0x28 ∷ 1 ∷ []) 4 ∷
     -- server 00000168 00002800: 1
-    refuse Server (0 ∷ 0 ∷ 1 ∷ 0x68 ∷ 0 ∷ 0 ∷ 0x28 ∷ 0 ∷ []) 1 ∷
+    refuse Side.Server (0 ∷ 0 ∷ 1 ∷ 0x68 ∷ 0 ∷ 0 ∷ 0x28 ∷ 0 ∷ []) 1 ∷
     -- client 0000012C 00000007 00 00 00000001 31: Execute, XML, text "1"
-    read Client (0 ∷ 0 ∷ 1 ∷ 0x2C ∷ 0 ∷ 0 ∷ 0 ∷ 7 ∷ 0 ∷ 0 ∷ 0 ∷ 0 ∷ 0 ∷ 1 ∷ 0x31 ∷ []) (Reply.message (record { instruction = Execute; body = Body.statement 0 (0x31 ∷ []) }) 15) ∷
+    read Side.Client (0 ∷ 0 ∷ 1 ∷ 0x2C ∷ 0 ∷ 0 ∷ 0 ∷ 7 ∷ 0 ∷ 0 ∷ 0 ∷ 0 ∷ 0 ∷ 1 ∷ 0x31 ∷ [])
+    (Reply.message (record { instruction = Execute; body = Body.statement 0 (0x31 ∷ []) }) 15) ∷
     -- the same, format 02: 8
-    refuse Client (0 ∷ 0 ∷ 1 ∷ 0x2C ∷ 0 ∷ 0 ∷ 0 ∷ 7 ∷ 2 ∷ 0 ∷ 0 ∷ 0 ∷ 0 ∷ 1 ∷ 0x31 ∷ []) 8 ∷
+    refuse Side.Client (0 ∷ 0 ∷ 1 ∷ 0x2C ∷ 0 ∷ 0 ∷ 0 ∷ 7 ∷ 2 ∷ 0 ∷ 0 ∷ 0 ∷ 0 ∷ 1 ∷ 0x31 ∷ []) 8 ∷
     -- the same, string format 01: 6
-    refuse Client (0 ∷ 0 ∷ 1 ∷ 0x2C ∷ 0 ∷ 0 ∷ 0 ∷ 7 ∷ 0 ∷ 1 ∷ 0 ∷ 0 ∷ 0 ∷ 1 ∷ 0x31 ∷ []) 6 ∷
+    refuse Side.Client (0 ∷ 0 ∷ 1 ∷ 0x2C ∷ 0 ∷ 0 ∷ 0 ∷ 7 ∷ 0 ∷ 1 ∷ 0 ∷ 0 ∷ 0 ∷ 1 ∷ 0x31 ∷ []) 6 ∷
     -- the same, string length 2: 5
-    refuse Client (0 ∷ 0 ∷ 1 ∷ 0x2C ∷ 0 ∷ 0 ∷ 0 ∷ 7 ∷ 0 ∷ 0 ∷ 0 ∷ 0 ∷ 0 ∷ 2 ∷ 0x31 ∷ []) 5 ∷
+    refuse Side.Client (0 ∷ 0 ∷ 1 ∷ 0x2C ∷ 0 ∷ 0 ∷ 0 ∷ 7 ∷ 0 ∷ 0 ∷ 0 ∷ 0 ∷ 0 ∷ 2 ∷ 0x31 ∷ []) 5 ∷
     -- BaseX write 61 00 FF: 61 FF 00 FF FF 00
     record { asked = Question.basexWrite (0x61 ∷ 0 ∷ 0xFF ∷ []); answer = Reply.bytes (0x61 ∷ 0xFF ∷ 0 ∷ 0xFF ∷ 0xFF ∷ 0 ∷ []) } ∷
     -- BaseX read FF 41 00: 13

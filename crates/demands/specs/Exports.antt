@@ -7,6 +7,7 @@ use mathlib.Core.Path.{_≡_}
 use Prim.Native.Nat.{ℕ, _≤_, _<_}
 use lib.ListN.{length, drop}
 use Rattle.wire.specs.Bytes.{IsBytes}
+use Rattle.wire.specs.Calls.{Done, recordAfter, keptAfter, AllRight}
 use Rattle.wire.specs.declared.Refusal.{Refusal}
 use Rattle.wire.specs.Refusals.{numberOf}
 use Rattle.sedna.specs.declared.Side.{Side}
@@ -16,7 +17,7 @@ use Rattle.grammar.specs.Conversation.{Whole, Begins}
 use Rattle.grammar.specs.Turn.{HasTurn}
 use Rattle.sedna_c.specs.Sessions.{freshCode, freshLeft, stepCode, stepLeft, stepFields, closedCode, turnCode}
 use Rattle.demands.specs.Answered.{Answered, answered}
-use Rattle.demands.specs.Header.{SideOf, TurnOf, FIELDS, SESSION-BYTES, Tells}
+use Rattle.demands.specs.Header.{SideOf, offeredBy, TurnOf, FIELDS, SESSION-BYTES, Tells}
 
 -- a call of `kdr_step`: a side's number, bytes, and the numbers that are lent for the fields
 pub record Call : Type 0 where
@@ -25,22 +26,23 @@ pub record Call : Type 0 where
   pub are-bytes : IsBytes bytes
   pub fields : List ℕ
 
--- what it answers, and what it leaves in the session's bytes and in the numbers: the right sides of its contract
-pub record Called : Type 0 where
+-- what it answers and tells; the record is the session's bytes. Both are the right sides of its contract
+pub record Told : Type 0 where
   pub answer : Answered
-  pub session : List ℕ
   pub fields : List ℕ
 
-abbrev pub called : List ℕ → Call → Called
+abbrev pub called : List ℕ → Call → Done (List ℕ) Told
 called d c = record {
-  answer = answered (stepCode d (c .side) (c .bytes) (length (c .fields)));
-  session = stepLeft d (c .side) (c .bytes) (length (c .fields));
-  fields = stepFields d (c .side) (c .bytes) (c .fields);
+  record-after = stepLeft d (c .side) (c .bytes) (length (c .fields));
+  answer = record {
+    answer = answered (stepCode d (c .side) (c .bytes) (length (c .fields)));
+    fields = stepFields d (c .side) (c .bytes) (c .fields);
+  };
 }
 
 -- a refusal's number alone, and everything as it was
-abbrev pub unchanged : ℕ → List ℕ → Call → Called
-unchanged k d c = record { answer = Answered.refusal k; session = d; fields = c .fields }
+abbrev pub unchanged : ℕ → List ℕ → Call → Done (List ℕ) Told
+unchanged k d c = record { record-after = d; answer = record { answer = Answered.refusal k; fields = c .fields } }
 
 -- the number of the refusal that a call gets, given the messages accepted before it
 pub data Why (before : List Message) (c : Call) : ℕ → Type 0 where
@@ -55,14 +57,22 @@ pub data Why (before : List Message) (c : Call) : ℕ → Type 0 where
   no-room : (side : Side) (m : Message) (n : ℕ) → SideOf (c .side) side → reading side (c .bytes) ≡ Answer.accepted m n
       → Begins (before ++ (m ∷ [])) → length (c .fields) < FIELDS → Why before c 10
 
--- a call on the session's bytes d came out right, and accepted these messages, one or none
-pub data Right (before : List Message) (d : List ℕ) (c : Call) : Called → List Message → Type 0 where
-  refused : (k : ℕ) → Why before c k → Right before d c (unchanged k d c) []
+-- a call on the session's bytes d came out right
+pub data RightCall (before : List Message) (d : List ℕ) (c : Call) : Done (List ℕ) Told → Type 0 where
+  refused : (k : ℕ) → Why before c k → RightCall before d c (unchanged k d c)
   -- the number of bytes read; the ten numbers mean the message; the numbers behind them stay, and the bytes behind the session's
-  accepted : (side : Side) (m : Message) (n : ℕ) (after told : List ℕ) → SideOf (c .side) side → reading side (c .bytes) ≡ Answer.accepted m n
+  accepted : (side : Side) (m : Message) (n : ℕ) (after fields : List ℕ) → SideOf (c .side) side → reading side (c .bytes) ≡ Answer.accepted m n
       → Begins (before ++ (m ∷ [])) → FIELDS ≤ length (c .fields)
-      → Tells (c .bytes) told m → drop FIELDS told ≡ drop FIELDS (c .fields) → drop SESSION-BYTES after ≡ drop SESSION-BYTES d
-      → Right before d c (record { answer = Answered.count n; session = after; fields = told }) (m ∷ [])
+      → Tells (c .bytes) fields m → drop FIELDS fields ≡ drop FIELDS (c .fields) → drop SESSION-BYTES after ≡ drop SESSION-BYTES d
+      → RightCall before d c (record { record-after = after; answer = record { answer = Answered.count n; fields = fields } })
+
+-- the accepted messages, in their order: a call that answers a count accepted what it was offered
+abbrev pub acceptingBy : List Message → Call → Answered → List Message
+acceptingBy before c (Answered.refusal k) = before
+acceptingBy before c (Answered.count n) = before ++ offeredBy (c .side) (c .bytes)
+
+abbrev pub accepting : List Message → Call → Told → List Message
+accepting before c t = acceptingBy before c (t .answer)
 
 -- `kdr_closed` answers 1 exactly when the accepted messages are a whole conversation, "else 0"
 pub record Closes (before : List Message) (d : List ℕ) : Type 0 where
@@ -75,14 +85,24 @@ pub record Turns (before : List Message) (d : List ℕ) : Type 0 where
   pub told : TurnOf (turnCode d) turn
   pub has : HasTurn before turn
 
--- each of a list of calls, one after another, came out right; and after them the accepted messages begin a conversation
-abbrev pub After : List Message → List ℕ → List Call → Type 0
-After before d [] = Begins before × Closes before d × Turns before d
-After before d (c ∷ calls) = (ms : List Message) × Right before d c (called d c) ms × After (before ++ ms) (called d c .session) calls
+-- the messages accepted, and the session's bytes, after a list of calls from d on
+abbrev pub acceptedFrom : List ℕ → List Call → List Message
+acceptedFrom = keptAfter called accepting []
+
+abbrev pub leftFrom : List ℕ → List Call → List ℕ
+leftFrom = recordAfter called
+
+-- what holds after it
+pub record After (d : List ℕ) (calls : List Call) : Type 0 where
+  -- each call came out right
+  pub right : AllRight called accepting RightCall [] d calls
+  pub begun : Begins (acceptedFrom d calls)
+  pub closes : Closes (acceptedFrom d calls) (leftFrom d calls)
+  pub turns : Turns (acceptedFrom d calls) (leftFrom d calls)
 
 pub record Demand3Exports : Type 0 where
   -- from what `kdr_fresh` leaves in two bytes or more
-  pub after-any-calls : (d : List ℕ) → SESSION-BYTES ≤ length d → (calls : List Call) → After [] (freshLeft d) calls
+  pub after-any-calls : (d : List ℕ) → SESSION-BYTES ≤ length d → (calls : List Call) → After (freshLeft d) calls
   -- which answers 0, and leaves the bytes behind those two
   pub fresh : (d : List ℕ) → SESSION-BYTES ≤ length d
       → (answered (freshCode d) ≡ Answered.count 0) × (drop SESSION-BYTES (freshLeft d) ≡ drop SESSION-BYTES d)

@@ -3,20 +3,19 @@ use mathlib.Core.Bool.{Bool, true, false}
 use mathlib.Core.List.{List, [], _∷_}
 use mathlib.Core.Path.{_≡_}
 use Prim.Native.Nat.{ℕ, _<_}
-use Rattle.assembly.specs.declared.Assembly.{Assembly}
-use Rattle.assembly.specs.declared.Open.{Open}
-use Rattle.assembly.specs.declared.Open.the-variants.{Nothing, Statement, Item, TypedItem}
-use Rattle.assembly.specs.Answers.{Reply}
+use Rattle.parts_join.specs.declared.Assembly.{Assembly}
+use Rattle.parts_join.specs.declared.Open.{Open}
+use Rattle.parts_join.specs.Answers.{Reply}
 use Rattle.demands.specs.Header.{_at_, Zero}
 
 -- enum kdr_gathering
 pub data Gathering : ℕ → Open → Type 0 where
-  nothing : Gathering 0 Nothing
-  statement : Gathering 1 Statement
+  nothing : Gathering 0 Open.Nothing
+  statement : Gathering 1 Open.Statement
   -- "up to 3.0"
-  item : Gathering 2 Item
+  item : Gathering 2 Open.Item
   -- "of 4.0"
-  typed-item : Gathering 3 TypedItem
+  typed-item : Gathering 3 Open.TypedItem
 
 -- "1 once" it is so, else 0
 pub data Flag : ℕ → Bool → Type 0 where
@@ -81,8 +80,8 @@ TOLD-FIELDS = 4
 -- four numbers mean 01's reply to a message that was taken; they mean no refusal
 pub data TellsReply (t : List ℕ) : Reply → Type 0 where
   -- "KDR_NOTHING for a part, and the others are 0"
-  part : Gathering (t at TOLD-WHAT) Nothing → Zero t (TOLD-LENGTH ∷ TOLD-CLASS ∷ TOLD-TYPE ∷ []) → TellsReply t Reply.taken
+  part : Gathering (t at TOLD-WHAT) Open.Nothing → Zero t (TOLD-LENGTH ∷ TOLD-CLASS ∷ TOLD-TYPE ∷ []) → TellsReply t Reply.taken
   -- "else what is finished"; what is not named is 0
-  statement : Gathering (t at TOLD-WHAT) Statement → Zero t (TOLD-TYPE ∷ []) → TellsReply t (Reply.whole (t at TOLD-FORMAT ∷ []) (t at TOLD-LENGTH))
-  item : Gathering (t at TOLD-WHAT) Item → Zero t (TOLD-CLASS ∷ TOLD-TYPE ∷ []) → TellsReply t (Reply.whole [] (t at TOLD-LENGTH))
-  typed-item : Gathering (t at TOLD-WHAT) TypedItem → TellsReply t (Reply.whole (t at TOLD-CLASS ∷ t at TOLD-TYPE ∷ []) (t at TOLD-LENGTH))
+  statement : Gathering (t at TOLD-WHAT) Open.Statement → Zero t (TOLD-TYPE ∷ []) → TellsReply t (Reply.whole (t at TOLD-FORMAT ∷ []) (t at TOLD-LENGTH))
+  item : Gathering (t at TOLD-WHAT) Open.Item → Zero t (TOLD-CLASS ∷ TOLD-TYPE ∷ []) → TellsReply t (Reply.whole [] (t at TOLD-LENGTH))
+  typed-item : Gathering (t at TOLD-WHAT) Open.TypedItem → TellsReply t (Reply.whole (t at TOLD-CLASS ∷ t at TOLD-TYPE ∷ []) (t at TOLD-LENGTH))

@@ -4,12 +4,14 @@ use mathlib.Core.List.{List, [], _∷_}
 use mathlib.Core.Option.{Option, none, some}
 use mathlib.Core.Path.{_≡_}
 use Prim.Native.Nat.{ℕ, zero, suc, _+_, _≤_}
+use lib.Dec.{eqb}
 use lib.ListN.{length, getD, take, drop}
+use Rattle.wire.specs.Bytes.{if}
 use Rattle.wire.specs.Every.{Every}
 use Rattle.sedna.specs.declared.Side.{Side}
-use Rattle.sedna.specs.declared.Side.the-variants.{Client, Server}
 use Rattle.sedna.specs.Message.{Url, Pair, Body, Message}
 use Rattle.sedna_read.specs.Places.{optionAt}
+use Rattle.sedna_read.specs.Reading.{Answer, reading}
 use Rattle.sedna_c.specs.Codes.{optionLeft}
 
 infixl 90 _at_
@@ -36,8 +38,17 @@ upTo (suc n) f = f 0 ∷ upTo n (λ k. f (suc k))
 
 -- enum kdr_side
 pub data SideOf : ℕ → Side → Type 0 where
-  client : SideOf 1 Client
-  server : SideOf 2 Server
+  client : SideOf 1 Side.Client
+  server : SideOf 2 Side.Server
+
+-- the message in front, where reading accepts one
+abbrev pub inFront : Answer → List Message
+inFront (Answer.refused r) = []
+inFront (Answer.accepted m n) = m ∷ []
+
+-- what a side's number and bytes offer
+abbrev pub offeredBy : ℕ → List ℕ → List Message
+offeredBy side bytes = if (eqb side 1) (inFront (reading Side.Client bytes)) (if (eqb side 2) (inFront (reading Side.Server bytes)) [])
 
 -- the same with KDR_NOBODY
 pub data TurnOf : ℕ → Option Side → Type 0 where

@@ -7,6 +7,8 @@ pub mod Examples
 pub mod Exports
 pub mod Gatherings
 pub mod Header
+pub mod JoinCalls
+pub mod Main
 pub mod PartsCalls
 pub mod SednaCalls
 pub mod Transcript

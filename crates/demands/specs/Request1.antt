@@ -2,12 +2,12 @@
 use mathlib.Core.List.{List}
 use Prim.Native.Nat.{ℕ}
 use Rattle.sedna_instant.specs.declared.Instant.{Instant}
-use Rattle.sedna_value_exact.specs.Counting.{Counting}
-use Rattle.sedna_value_exact.specs.Division.{Division}
-use Rattle.sedna_value_exact.specs.Examples.{Examples}
-use Rattle.sedna_value_exact.specs.Exactly.{Valuing}
-use Rattle.sedna_value_exact.specs.Incident.{Incident}
-use Rattle.sedna_value_exact.specs.Order.{Ordered, Strict, HandedProper}
+use Rattle.sedna_value_laws.specs.Counting.{Counting}
+use Rattle.sedna_value_laws.specs.Division.{Division}
+use Rattle.sedna_value_laws.specs.Examples.{Examples}
+use Rattle.sedna_value_laws.specs.Exactly.{Valuing}
+use Rattle.sedna_value_laws.specs.Incident.{Incident}
+use Rattle.sedna_value_laws.specs.Order.{Ordered, Strict, HandedProper}
 use Rattle.demands.specs.ValueCalls.{ValueCalls}
 
 pub record Request1 : Type 0 where

@@ -7,21 +7,23 @@ use mathlib.Core.Path.{_≡_}
 use Prim.Native.Nat.{ℕ, _≤_, _<_}
 use lib.ListN.{length, drop, getElem?}
 use Rattle.wire.specs.Bytes.{IsBytes}
+use Rattle.wire.specs.Call.{outputAfter}
 use Rattle.wire.specs.declared.Refusal.{Refusal}
 use Rattle.wire.specs.Refusals.{numberOf}
 use Rattle.sedna.specs.declared.Entry.{Entry}
 use Rattle.sedna.specs.declared.Shape.{Shape}
 use Rattle.sedna.specs.declared.Side.{Side}
+use Rattle.sedna.specs.Encode.{encode}
 use Rattle.sedna.specs.Message.{Pair, Body, Message, message}
 use Rattle.sedna.specs.Table.{InTable}
 use Rattle.sedna_read.specs.Meaning.{optionIn}
 use Rattle.sedna_read.specs.Places.{optionAt}
 use Rattle.sedna_read.specs.Reading.{Answer, reading}
-use Rattle.sedna_write.specs.declared.Written.{Written}
-use Rattle.sedna_write.specs.declared.Written.the-variants as wrote
-use Rattle.sedna_write.specs.Pairs.{given, optionsWritten, optionsLeft}
+use Rattle.wire.specs.declared.Counted.{Counted}
+use Rattle.sedna_write.specs.Pairs.{given, optionsMessage, optionsWritten}
 use Rattle.sedna_write.specs.Writing.{judgement}
-use Rattle.sedna_c.specs.Codes.{writtenCode, sideReading, readCode, fieldsLeft, optionCode, optionLeft}
+use Rattle.sedna_c.specs.Codes.{sideReading, readCode, fieldsLeft, optionCode, optionLeft}
+use Rattle.answer_c.specs.Codes.{countedCode}
 use Rattle.demands.specs.Answered.{Answered, answered}
 use Rattle.demands.specs.Header.{_at_, slice, Inside, SideOf, START-1, LENGTH-1, COUNT, FIELDS, pairTold, Tells}
 use Rattle.demands.specs.Header.{OPTION-START, OPTION-LENGTH, OPTION-FIELDS}
@@ -56,9 +58,9 @@ OptionCalled bytes start length′ k lent o =
     (optionLeft (optionAt k start (slice bytes start length′)) lent)
 
 -- what writing answers, as counts and refusals
-abbrev pub writtenAs : Written → Answered
-writtenAs (wrote.Bytes n) = Answered.count n
-writtenAs (wrote.Refused r) = Answered.refusal (numberOf r)
+abbrev pub writtenAs : Counted → Answered
+writtenAs (Counted.Count n) = Answered.count n
+writtenAs (Counted.Refused r) = Answered.refusal (numberOf r)
 
 -- "Lists that do not belong together … are a value that is not allowed: 8"; an instruction that the table lacks goes ahead; the output stays
 pub data ListsRefused (instruction : ℕ) (out : List ℕ) : Answered → List ℕ → Type 0 where
@@ -82,8 +84,8 @@ pub record SednaCalls : Type 0 where
       → OptionCalled bytes (fieldsLeft (sideReading side bytes) f at START-1) (fieldsLeft (sideReading side bytes) f at LENGTH-1) k lent (getElem? ps k))
   -- each call that writes a message: `written` is such a judgement, and `Demand2.sedna.writing-exact`, `Demand1.sedna.writing-refused` say which
   pub write : (instruction : ℕ) (shape : Shape) (ok : Bool) (n room : ℕ)
-      → answered (writtenCode (judgement instruction shape ok n room)) ≡ writtenAs (judgement instruction shape ok n room)
+      → answered (countedCode (judgement instruction shape ok n room)) ≡ writtenAs (judgement instruction shape ok n room)
   -- `kdr_write_options`, where the three lists do not belong together
   pub lists : (instruction : ℕ) (ids lengths values out : List ℕ) → given ids lengths values ≡ false
-      → ListsRefused instruction out (answered (writtenCode (optionsWritten (length out) instruction ids lengths values)))
-      (optionsLeft out instruction ids lengths values (optionsWritten (length out) instruction ids lengths values))
+      → ListsRefused instruction out (answered (countedCode (optionsWritten (length out) instruction ids lengths values)))
+      (outputAfter (optionsWritten (length out) instruction ids lengths values) out 0 (encode (optionsMessage instruction ids lengths values)))

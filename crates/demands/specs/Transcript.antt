@@ -7,6 +7,7 @@ use Prim.Native.Nat.{ℕ, _<_}
 use lib.Dec.{eqb}
 use lib.ListN.{length}
 use Rattle.wire.specs.Bytes.{IsBytes, if}
+use Rattle.wire.specs.Calls.{keptAfter, AllRight}
 use Rattle.wire.specs.Refusals.{numberOf}
 use Rattle.wire.specs.declared.Refusal.{Refusal}
 use Rattle.sedna.specs.Message.{Message}
@@ -14,7 +15,7 @@ use Rattle.sedna_read.specs.Reading.{Answer, reading}
 use Rattle.grammar.specs.Conversation.{Whole, Begins}
 use Rattle.session.specs.Step.{freshSession}
 use Rattle.records.specs.Record.{Record, records}
-use Rattle.records.specs.Transcript.{answers, after, lines, saysClosed, saysOpen, saysDamaged, lastLine, printed}
+use Rattle.records_printed.specs.Transcript.{recordCall, answers, after, lines, saysClosed, saysOpen, saysDamaged, lastLine, printed}
 
 -- what a record's payload reads as
 abbrev pub readAs : Record → Answer
@@ -31,23 +32,13 @@ pub data RightNumber (before : List Message) (r : Record) : ℕ → Type 0 where
   -- all of the payload is one message that goes on
   accepted : {m : Message} → readAs r ≡ Answer.accepted m (length (r .payload)) → Begins (before ++ (m ∷ [])) → RightNumber before r 0
 
--- the message of a record that got 0
-abbrev pub messageOf : Answer → ℕ → List Message
-messageOf (Answer.refused r) x = []
-messageOf (Answer.accepted m n) x = if (eqb x 0) (m ∷ []) []
+-- the accepted messages, in their order: a record that got 0 has one
+abbrev pub acceptingBy : List Message → Answer → ℕ → List Message
+acceptingBy before (Answer.refused r) x = before
+acceptingBy before (Answer.accepted m n) x = if (eqb x 0) (before ++ (m ∷ [])) before
 
--- the accepted messages, in their order
-abbrev pub acceptedOf : List Record → List ℕ → List Message
-acceptedOf [] xs = []
-acceptedOf (r ∷ rs) [] = []
-acceptedOf (r ∷ rs) (x ∷ xs) = messageOf (readAs r) x ++ acceptedOf rs xs
-
--- each record of a list, one after another, got the right answer
-abbrev pub AllRight : List Message → List Record → List ℕ → Type 0
-AllRight before [] [] = Unit {0}
-AllRight before [] (x ∷ xs) = ⊥
-AllRight before (r ∷ rs) [] = ⊥
-AllRight before (r ∷ rs) (x ∷ xs) = RightNumber before r x × AllRight (before ++ messageOf (readAs r) x) rs xs
+abbrev pub accepting : List Message → Record → ℕ → List Message
+accepting before r x = acceptingBy before (readAs r) x
 
 -- the records of an input that lines are printed for
 abbrev pub recordsIn : List ℕ → List Record
@@ -59,7 +50,7 @@ numbersIn input = answers freshSession (recordsIn input)
 
 -- the messages accepted of them
 abbrev pub acceptedIn : List ℕ → List Message
-acceptedIn input = acceptedOf (recordsIn input) (numbersIn input)
+acceptedIn input = keptAfter recordCall accepting [] freshSession (recordsIn input)
 
 -- the last line
 abbrev pub lastIn : List ℕ → List ℕ
@@ -70,7 +61,7 @@ pub record Drawn (input : List ℕ) : Type 0 where
   -- "The accepted messages, in their order, begin a conversation of document 01's grammar"
   pub begun : Begins (acceptedIn input)
   -- what each record got
-  pub judged : AllRight [] (recordsIn input) (numbersIn input)
+  pub judged : AllRight recordCall accepting (λ before s r done. RightNumber before r (done .answer)) [] freshSession (recordsIn input)
   -- "The session reports itself closed exactly when the accepted ones are a whole conversation": so says the last line, where the input is not damaged
   pub closed : (lastIn input ≡ saysClosed) ↔ ((records input .damaged ≡ false) × Whole (acceptedIn input))
   pub still-open : (lastIn input ≡ saysOpen) ↔ ((records input .damaged ≡ false) × ¬ Whole (acceptedIn input))

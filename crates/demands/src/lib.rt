@@ -1,1 +1,1 @@
-// The demands, stated once each over the layers below: specs/ says them, proofs/ proves them.
+// No code: what is promised, a file each in specs/, Main.antt first, and the proofs of it.

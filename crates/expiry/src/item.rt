@@ -1,13 +1,13 @@
 // An item of class 1 sent in 4.0: cut into messages, each written, read back and joined.
-use assembly::Answer;
-use assembly::Assembly;
-use assembly::Joined;
-use lines::cut::first;
+use parts_join::Answer;
+use parts_join::Assembly;
+use parts_join::Joined;
 use sedna::Side;
 use sedna::names;
 use sedna_read::Reading;
-use sedna_write::Written;
+use wire::Counted;
 use wire::Refusal;
+use wire::first;
 
 fn refused(a: Assembly, r: Refusal) -> Joined {
     Joined {
@@ -24,37 +24,37 @@ fn received(a: Assembly, buffer: &mut [u8], bytes: &[u8]) -> Joined {
             instruction,
             places,
             ..
-        } => assembly::join(a, buffer, instruction, places, bytes),
+        } => parts_join::join(a, buffer, instruction, places, bytes),
     }
 }
 
 // Part k, written and received.
 fn part(a: Assembly, buffer: &mut [u8], kind: u8, text: &[u8], k: usize) -> Joined {
     let mut out = [0u8; 10248];
-    match fragments::write_typed_item_part(&mut out, 1, kind, text, k) {
-        Written::Refused(r) => refused(a, r),
-        Written::Bytes(n) => received(a, buffer, first(&out, n)),
+    match parts_cut::write_typed_item_part(&mut out, 1, kind, text, k) {
+        Counted::Refused(r) => refused(a, r),
+        Counted::Count(n) => received(a, buffer, first(&out, n)),
     }
 }
 
 fn ended(a: Assembly, buffer: &mut [u8]) -> Joined {
     let mut out = [0u8; 8];
     match sedna_write::write_empty(&mut out, names::ITEM_END) {
-        Written::Refused(r) => refused(a, r),
-        Written::Bytes(n) => received(a, buffer, first(&out, n)),
+        Counted::Refused(r) => refused(a, r),
+        Counted::Count(n) => received(a, buffer, first(&out, n)),
     }
 }
 
 // How many messages: the parts, which are never so many that one more would be too much, and the end.
 pub fn messages(text: &[u8]) -> usize {
-    let parts = fragments::typed_item_parts(text.len());
+    let parts = parts_cut::typed_item_parts(text.len());
     if parts < usize::MAX { parts + 1 } else { parts }
 }
 
 // Sends all parts and the end. Answers what joining says to the end, or the first refusal.
 pub fn sent(buffer: &mut [u8], kind: u8, text: &[u8]) -> Answer {
-    let count = fragments::typed_item_parts(text.len());
-    let mut a = assembly::open_typed_item();
+    let count = parts_cut::typed_item_parts(text.len());
+    let mut a = parts_join::open_typed_item();
     let mut k = 0;
     while k < count {
         let joined = part(a, buffer, kind, text, k);

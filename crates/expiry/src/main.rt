@@ -10,18 +10,19 @@
 mod item;
 mod value;
 
-use assembly::Answer;
-use lines::cut::behind;
-use lines::cut::first;
-use lines::cut::front;
-use lines::parse::Byte;
-use lines::parse::Number;
-use lines::print::decimal;
-use lines::print::say;
+use parts_join::Answer;
 use sedna_value::Valued;
+use text_lines::cut::behind;
+use text_lines::cut::front;
+use text_lines::input::asks;
+use text_lines::parse::Byte;
+use text_lines::parse::Number;
+use text_lines::print::decimal;
+use text_lines::print::say;
+use text_values::say_refusal;
 use value::Last;
-use value_show::say_refusal;
 use wire::Refusal;
+use wire::first;
 
 const MOST: usize = 32768;
 
@@ -50,7 +51,7 @@ fn sent(last: Last, kind: u8, text: &[u8]) -> Last {
 
 // The number behind a star; MOST + 1 where there is none.
 fn zeros(word: &[u8]) -> usize {
-    match lines::parse::decimal(behind(word, b'*')) {
+    match text_lines::parse::decimal(behind(word, b'*')) {
         Number::Not => MOST + 1,
         Number::Is(n) => n as usize,
     }
@@ -75,8 +76,8 @@ fn text(last: Last, kind: u8, zeros: usize, rest: &[u8]) -> Last {
     sent(last, kind, first(&text, end))
 }
 
-fn told(last: Last, line: &[u8]) -> Last {
-    let Byte::Is(kind) = lines::parse::decimal_byte(front(line, b' ')) else {
+fn answered(last: Last, line: &[u8]) -> Last {
+    let Byte::Is(kind) = text_lines::parse::decimal_byte(front(line, b' ')) else {
         return unread(last);
     };
     let all = behind(line, b' ');
@@ -88,15 +89,15 @@ fn told(last: Last, line: &[u8]) -> Last {
 
 fn show(last: Last, line: &[u8]) -> Last {
     say(line);
-    if line.len() == 0 || line[0] == b'#' {
-        return last;
+    if asks(line) {
+        return answered(last, line);
     }
-    told(last, line)
+    last
 }
 
 fn next_line(last: Last) -> Last {
     let mut buffer = io::buffer();
-    let n = lines::input::line(&mut buffer);
+    let n = text_lines::input::line(&mut buffer);
     if n == 0 {
         return Last::End;
     }

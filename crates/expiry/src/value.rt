@@ -1,10 +1,10 @@
 // A value as a person reads it.
-use lines::print::say;
 use sedna_instant::Instant;
 use sedna_instant::Order;
 use sedna_instant::compare;
 use sedna_value::Value;
-use value_show::say_value;
+use text_lines::print::say;
+use text_values::say_value;
 
 // The instant that was read last, if any; or that the input has ended.
 pub enum Last {

@@ -8,7 +8,7 @@ use Rattle.grammar.specs.Conversation.{Whole, Begins}
 use Rattle.grammar.specs.Sent.{Version, Sent}
 use Rattle.grammar.proofs.Arrow.{Rest, lay, Arrow, find}
 use Rattle.grammar.proofs.Back.{to, laid-to}
-use Rattle.grammar.proofs.Phase.{Phase, fresh, same-sent}
+use Rattle.grammar.proofs.Phase.{Phase, start-up, same-sent}
 use Rattle.grammar.proofs.Rows.{row}
 use Rattle.grammar.proofs.Takes.{At, Look, take, at-end, split}
 use Rattle.grammar.proofs.Unique.{Behind, layBehind, head-of, nothing-left, no-cons, heads, tails}
@@ -53,4 +53,4 @@ module _ (m : Message) (rest : List Message) where
 -- "After the end every message gets 9": with no message does a conversation go on behind a whole one
 pub ended : (l : List Message) (m : Message) → Whole l → ¬ Begins (l ++ (m ∷ []))
 unfolding Whole Begins
-ended l m w (rest, g) = no-longer m rest l fresh 0 (to (w .0)) (to (g .0)) (laid-to (w .0) ∙ w .1) (laid-to (g .0) ∙ g .1 ∙ append-assoc l (m ∷ []) rest)
+ended l m w (rest, g) = no-longer m rest l start-up 0 (to (w .0)) (to (g .0)) (laid-to (w .0) ∙ w .1) (laid-to (g .0) ∙ g .1 ∙ append-assoc l (m ∷ []) rest)

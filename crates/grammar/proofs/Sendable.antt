@@ -14,10 +14,10 @@ use Rattle.sedna.specs.Encode.{bodyBytes}
 use Rattle.sedna.specs.Message.{Body, Message}
 use Rattle.sedna.specs.Table.{findOf, shaped}
 use Rattle.grammar.specs.Conversation.{Whole, Begins}
-use Rattle.grammar.specs.Sent.{Version, allBytes, published}
+use Rattle.grammar.specs.Sent.{Version, allBytes, canSend}
 use Rattle.grammar.proofs.Arrow.{Rest, lay}
 use Rattle.grammar.proofs.Back.{to, laid-to}
-use Rattle.grammar.proofs.Phase.{Phase, fresh}
+use Rattle.grammar.proofs.Phase.{Phase, start-up}
 use Rattle.grammar.proofs.Takes.{Look, take, at-end, split}
 use Rattle.grammar.proofs.Unique.{head-of, nothing-left, no-cons, heads, tails}
 
@@ -46,8 +46,8 @@ all-bytes (x ∷ s) g zero = ltb-true x 256 (T-true (ltb x 256) (T-both (ltb x 2
 all-bytes (x ∷ s) g (suc i) = all-bytes s (T-both (ltb x 256) (allBytes s) g .1) i
 
 -- a body that passes the test of what is sent is bytes
-pub sent-bytes : (k : ℕ) (b : Body) → T (published k b) → IsBytes (bodyBytes b)
-unfolding published
+pub sent-bytes : (k : ℕ) (b : Body) → T (canSend k b) → IsBytes (bodyBytes b)
+unfolding canSend
 sent-bytes k b g =
     let short : Bool = leb (length (bodyBytes b)) 10240 in
     let shape = T-both (shaped (findOf k) b) (if (allowed b) (if short (allBytes (bodyBytes b)) false) false) g in
@@ -56,7 +56,7 @@ sent-bytes k b g =
 
 -- the message passes the test of what is sent
 abbrev pub Sendable : Message → Type 0
-Sendable m = T (published (m .instruction) (m .body))
+Sendable m = T (canSend (m .instruction) (m .body))
 
 -- every message of what is left at a phase does
 left-sendable : (l : List Message) (p : Phase) (v : Version) (t : Rest p v) → lay p v t ≡ l → Every Sendable l
@@ -76,4 +76,4 @@ front-of (x ∷ k) l h = (h .0, front-of k l (h .1))
 -- and so does every message of a list that begins a conversation
 pub begun-sendable : (l : List Message) → Begins l → Every Sendable l
 unfolding Begins Whole
-begun-sendable l (rest, w) = front-of l rest (left-sendable (l ++ rest) fresh 0 (to (w .0)) (laid-to (w .0) ∙ w .1))
+begun-sendable l (rest, w) = front-of l rest (left-sendable (l ++ rest) start-up 0 (to (w .0)) (laid-to (w .0) ∙ w .1))

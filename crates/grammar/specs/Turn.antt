@@ -3,7 +3,6 @@ use mathlib.Core.List.{List, [], _∷_, _++_}
 use mathlib.Core.Option.{Option, none, some}
 use mathlib.Core.Path.{_≡_}
 use Rattle.sedna.specs.declared.Side.{Side}
-use Rattle.sedna.specs.declared.Side.the-variants.{Client, Server}
 use Rattle.sedna.specs.Message.{Message}
 use Rattle.sedna.specs.Names.{ErrorResponse}
 use Rattle.sedna.specs.Published.{Published}
@@ -18,8 +17,8 @@ pub record GoesOn (before : List Message) (side : Side) : Type 0 where
 -- the side that has the turn, none where the conversation is over; `Demand3.one-turn`: each case shuts out the others
 pub data HasTurn (before : List Message) : Option Side → Type 0 where
   -- a message of the client's goes on; of the server's, ErrorResponse at most, which ends the conversation (`Demand3.broken-off`)
-  client : GoesOn before Client → ((m : Message) → Published Server m → Begins (before ++ (m ∷ [])) → m .instruction ≡ ErrorResponse)
-      → HasTurn before (some Client)
+  client : GoesOn before Side.Client → ((m : Message) → Published Side.Server m → Begins (before ++ (m ∷ [])) → m .instruction ≡ ErrorResponse)
+      → HasTurn before (some Side.Client)
   -- a message of the server's goes on, and none of the client's
-  server : GoesOn before Server → ¬ GoesOn before Client → HasTurn before (some Server)
+  server : GoesOn before Side.Server → ¬ GoesOn before Side.Client → HasTurn before (some Side.Server)
   over : Whole before → HasTurn before none

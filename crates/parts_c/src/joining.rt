@@ -4,22 +4,23 @@
 ghost use mathlib.Core.Path.{_≡_};
 ghost use Prim.Native.Nat.{_≤_};
 ghost use lib.ListN.{length};
-ghost use Rattle.assembly.specs.Joining.{opened};
+ghost use Rattle.parts_join.specs.Joining.{opened};
 ghost use Rattle.sedna_c.specs.Codes.{sideReading};
-ghost use Rattle.parts_c.specs.Joining.{openOf, openNumber, flagOf, assemblyPut, keptIn, openCode, openLeft, answerCode, toldPut, toldLeft, readingJoined, outcome};
-use assembly::Answer;
-use assembly::Assembly;
-use assembly::Joined;
-use assembly::Label;
-use assembly::Open;
+ghost use Rattle.wire.specs.Call.{Gives};
+ghost use Rattle.parts_c.specs.Joining.{openOf, openNumber, flagOf, assemblyPut, meantBy, openCode, openAfter, answerCode, toldPut, toldAfter};
+ghost use Rattle.parts_c.specs.Joining.{readingJoined, outcome, JoinLeaves};
+use answer_c::refusal_code;
+use parts_join::Answer;
+use parts_join::Assembly;
+use parts_join::Label;
+use parts_join::Open;
 use sedna_c::sides::Sender;
 use sedna_c::sides::sender_of;
 use sedna_read::Reading;
 use wire::Refusal;
-use wire::refusal_code;
 
-// The numbers of an assembly, or of none.
-pub enum Kept {
+// The assembly that seven numbers mean, or none.
+pub enum Meant {
     Is(Assembly),
     Nothing,
 }
@@ -56,9 +57,9 @@ fn flag(b: bool) -> u64
     if b { 1 } else { 0 }
 }
 
-fn kept_in(assembly: &[u64]) -> Kept
+fn meant_by(assembly: &[u64]) -> Meant
     requires { ⌜ 7 ≤ length (now assembly) ⌝ }
-    ensures { λ r. ⌜ r ≡ keptIn (now (assembly .entry)) ⌝ }
+    ensures { λ r. ⌜ r ≡ meantBy (now (assembly .entry)) ⌝ }
 {
     let what = assembly[0];
     let begun = assembly[1];
@@ -68,22 +69,22 @@ fn kept_in(assembly: &[u64]) -> Kept
     let class = assembly[5];
     let kind = assembly[6];
     if 3 < what {
-        return Kept::Nothing;
+        return Meant::Nothing;
     }
     if 1 < begun {
-        return Kept::Nothing;
+        return Meant::Nothing;
     }
     if 1 < overflowed {
-        return Kept::Nothing;
+        return Meant::Nothing;
     }
     if 255 < format {
-        return Kept::Nothing;
+        return Meant::Nothing;
     }
     if 255 < class {
-        return Kept::Nothing;
+        return Meant::Nothing;
     }
     if 255 < kind {
-        return Kept::Nothing;
+        return Meant::Nothing;
     }
     let label = Label {
         format: format as u8,
@@ -91,7 +92,7 @@ fn kept_in(assembly: &[u64]) -> Kept
         kind: kind as u8,
     };
     let open = open_of(what);
-    Kept::Is(Assembly {
+    Meant::Is(Assembly {
         what: open,
         begun: begun == 1,
         held: held as usize,
@@ -122,9 +123,9 @@ fn opened(what: Open) -> Assembly
 {
     match what {
         Open::Nothing => Assembly::closed(),
-        Open::Statement => assembly::open_statement(),
-        Open::Item => assembly::open_item(),
-        Open::TypedItem => assembly::open_typed_item(),
+        Open::Statement => parts_join::open_statement(),
+        Open::Item => parts_join::open_item(),
+        Open::TypedItem => parts_join::open_typed_item(),
     }
 }
 
@@ -132,7 +133,7 @@ fn opened(what: Open) -> Assembly
 // for one of 4.0. What they held is dropped.
 #[no_mangle]
 pub extern "C" fn kdr_open(assembly: &mut [u64], what: u64) -> u64
-    ensures { λ r. ⌜ (r ≡ openCode what (now (assembly .entry))) × (now (assembly .exit) ≡ openLeft what (now (assembly .entry))) ⌝ }
+    ensures { λ r. ⌜ Gives (openCode what (now (assembly .entry))) (openAfter what (now (assembly .entry))) r (now (assembly .exit)) ⌝ }
 {
     if assembly.len() < 7 {
         return refusal_code(Refusal::NoRoom);
@@ -160,7 +161,7 @@ fn tell(told: &mut [u64], what: u64, len: usize, a: u8, b: u8)
 
 fn tell_answer(told: &mut [u64], answer: Answer)
     requires { ⌜ 4 ≤ length (now told) ⌝ }
-    ensures { λ _. ⌜ now (told .exit) ≡ toldLeft answer (now (told .entry)) ⌝ }
+    ensures { λ _. ⌜ now (told .exit) ≡ toldAfter answer (now (told .entry)) ⌝ }
 {
     match answer {
         Answer::Part => tell(told, 0, 0, 0, 0),
@@ -183,18 +184,6 @@ fn answer_code(answer: Answer, count: usize) -> u64
     }
 }
 
-// The assembly after a message, and the answer to it, told in numbers.
-fn answered(j: Joined, count: usize, assembly: &mut [u64], told: &mut [u64]) -> u64
-    requires { ⌜ (7 ≤ length (now assembly)) × (4 ≤ length (now told)) ⌝ }
-    ensures { λ r. ⌜ (r ≡ answerCode (j .answer) count) × (now (assembly .exit) ≡ assemblyPut (j .assembly) (now (assembly .entry))) × (now (told .exit) ≡ toldLeft (j .answer) (now (told .entry))) ⌝ }
-{
-    let a = j.assembly;
-    let answer = j.answer;
-    put(assembly, a);
-    tell_answer(told, answer);
-    answer_code(answer, count)
-}
-
 fn read_from(side: u8, bytes: &[u8]) -> Reading
     ensures { λ r. ⌜ r ≡ sideReading side (now (bytes .entry)) ⌝ }
 {
@@ -213,7 +202,8 @@ fn join_read(
     told: &mut [u64],
 ) -> u64
     requires { ⌜ (7 ≤ length (now assembly)) × (4 ≤ length (now told)) ⌝ }
-    ensures { λ r. ⌜ (r ≡ readingJoined reading a (now (bytes .entry)) (now (assembly .entry)) (now (buffer .entry)) (now (told .entry)) .code) × (now (assembly .exit) ≡ readingJoined reading a (now (bytes .entry)) (now (assembly .entry)) (now (buffer .entry)) (now (told .entry)) .assembly) × (now (buffer .exit) ≡ readingJoined reading a (now (bytes .entry)) (now (assembly .entry)) (now (buffer .entry)) (now (told .entry)) .buffer) × (now (told .exit) ≡ readingJoined reading a (now (bytes .entry)) (now (assembly .entry)) (now (buffer .entry)) (now (told .entry)) .told) ⌝ }
+    ensures { λ r. ⌜ JoinLeaves (readingJoined reading a (now (bytes .entry)) (now (assembly .entry)) (now (buffer .entry)) (now (told .entry)))
+        r (now (assembly .exit)) (now (buffer .exit)) (now (told .exit)) ⌝ }
 {
     match reading {
         Reading::Refused(r) => refusal_code(r),
@@ -222,8 +212,12 @@ fn join_read(
             places,
             count,
         } => {
-            let j = assembly::join(a, buffer, instruction, places, bytes);
-            answered(j, count, assembly, told)
+            let j = parts_join::join(a, buffer, instruction, places, bytes);
+            let after = j.assembly;
+            let answer = j.answer;
+            put(assembly, after);
+            tell_answer(told, answer);
+            answer_code(answer, count)
         }
     }
 }
@@ -239,7 +233,8 @@ pub extern "C" fn kdr_join(
     bytes: &[u8],
     told: &mut [u64],
 ) -> u64
-    ensures { λ r. ⌜ (r ≡ outcome (now (assembly .entry)) (now (buffer .entry)) side (now (bytes .entry)) (now (told .entry)) .code) × (now (assembly .exit) ≡ outcome (now (assembly .entry)) (now (buffer .entry)) side (now (bytes .entry)) (now (told .entry)) .assembly) × (now (buffer .exit) ≡ outcome (now (assembly .entry)) (now (buffer .entry)) side (now (bytes .entry)) (now (told .entry)) .buffer) × (now (told .exit) ≡ outcome (now (assembly .entry)) (now (buffer .entry)) side (now (bytes .entry)) (now (told .entry)) .told) ⌝ }
+    ensures { λ r. ⌜ JoinLeaves (outcome (now (assembly .entry)) (now (buffer .entry)) side (now (bytes .entry)) (now (told .entry)))
+        r (now (assembly .exit)) (now (buffer .exit)) (now (told .exit)) ⌝ }
 {
     if assembly.len() < 7 {
         return refusal_code(Refusal::NoRoom);
@@ -247,9 +242,9 @@ pub extern "C" fn kdr_join(
     if told.len() < 4 {
         return refusal_code(Refusal::NoRoom);
     }
-    match kept_in(assembly) {
-        Kept::Nothing => refusal_code(Refusal::ValueNotAllowed),
-        Kept::Is(a) => {
+    match meant_by(assembly) {
+        Meant::Nothing => refusal_code(Refusal::ValueNotAllowed),
+        Meant::Is(a) => {
             let reading = read_from(side, bytes);
             join_read(reading, a, bytes, assembly, buffer, told)
         }

@@ -1,36 +1,29 @@
 -- `records` reads exactly what the format says.
 use mathlib.Core.Bool.{Bool, true, false}
-use mathlib.Core.List.{List, [], _∷_, _++_, append-assoc}
+use mathlib.Core.List.{List, [], _∷_, _++_, append-assoc, flatMap}
 use mathlib.Core.Path.{_≡_, refl, sym, ap, subst, _∙_}
 use Prim.Native.Nat.{ℕ, zero, suc, _+_, _-_, _*_, _/_, _%_, _≤_, _<_}
 use native.Mathlib.Omega.{arith}
 use lib.Dec.{ltb, eqb}
 use lib.ListN.{length, take, drop, length-append, take-append-drop}
-use lib.Seq.{length-take-le, take-append-seam, drop-append-seam}
+use lib.Seq.{length-take-le, take-append-seam, drop-append-seam, getD-append-add}
 use borrow.Author.Tests.{le-ltb, eqb-true, ltb-false}
 use Rattle.wire.specs.Bytes.{IsBytes, if}
+use Rattle.wire.specs.Every.{Every}
 use Rattle.sedna.specs.declared.Side.{Side}
 use Rattle.sedna.specs.declared.Side.the-variants.{Client, Server}
 use Rattle.wire.proofs.Branches.{apart, either}
-use Rattle.sedna_exact.proofs.Bytes.{bytes-front, bytes-behind}
 use Rattle.records.specs.declared.Head.{Head}
 use Rattle.records.specs.declared.Head.the-variants as head
 use Rattle.records.specs.Format.{littleBytes, kindOf, recordBytes, transcript, Sound, NoRecord, Stops, Format}
 use Rattle.records.specs.Record.{little, sent, headOf, Record, recordOf, Front, behind, front, Records, fromFront, recordsUpTo, records}
 use Rattle.records.proofs.Runs.{shorter, records-front}
-use Rattle.records.proofs.Spelt.{digits-back, digits-all, leading, digits-only}
 
 -- six bytes that spell a length and a kind
-module _ (a b c d e f : ℕ) (s : List ℕ) where
-  abbrev pub size : ℕ
-  size = little (a ∷ b ∷ c ∷ d ∷ [])
-
-  abbrev pub kind : ℕ
-  kind = little (e ∷ f ∷ [])
-
-  pub head-six : headOf (a ∷ b ∷ c ∷ d ∷ e ∷ f ∷ s) ≡ if (ltb 10248 size) head.Damaged (sent kind size)
-  unfolding headOf
-  head-six = rw (le-ltb (length (a ∷ b ∷ c ∷ d ∷ e ∷ f ∷ s)) 6 (omega arith))
+pub head-six : (a b c d e f : ℕ) (s : List ℕ)
+    → headOf (a ∷ b ∷ c ∷ d ∷ e ∷ f ∷ s) ≡ if (ltb 10248 (little (a ∷ b ∷ c ∷ d ∷ []))) head.Damaged (sent (little (e ∷ f ∷ [])) (little (a ∷ b ∷ c ∷ d ∷ [])))
+unfolding headOf
+head-six a b c d e f s = rw (le-ltb (length (a ∷ b ∷ c ∷ d ∷ e ∷ f ∷ s)) 6 (omega arith))
 
 kind-sent : (side : Side) (n : ℕ) → sent (little (littleBytes 2 (kindOf side))) n ≡ head.Record side n
 kind-sent Client n = refl
@@ -40,17 +33,23 @@ little-back : (n : ℕ) → n ≤ 10248 → little (littleBytes 4 n) ≡ n
 little-back n h = omega arith
 
 -- a record that was written out stands there, whatever follows
-front-written : (r : Record) (rest : List ℕ) → length (r .payload) ≤ 10248 → front (recordBytes r ++ rest) ≡ Front.sound r rest
+front-written : (r : Record) (rest : List ℕ) → Sound r → front (recordBytes r ++ rest) ≡ Front.sound r rest
 unfolding front
 front-written r rest h =
     let p = r .payload in
     let n = length p in
     let z = little-back n h in
-    rw (head-six (n % 256) (n / 256 % 256) (n / 256 / 256 % 256) (n / 256 / 256 / 256 % 256) (kindOf (r .side) % 256) (kindOf (r .side) / 256 % 256) (p ++ rest), z, le-ltb 10248 n h, kind-sent (r .side) n, le-ltb (length (p ++ rest)) n (omega (arith, length-append p rest)))
+    rw (
+      head-six (n % 256) (n / 256 % 256) (n / 256 / 256 % 256) (n / 256 / 256 / 256 % 256) (kindOf (r .side) % 256) (kindOf (r .side) / 256 % 256) (p ++ rest),
+      z,
+      le-ltb 10248 n h,
+      kind-sent (r .side) n,
+      le-ltb (length (p ++ rest)) n (omega (arith, length-append p rest)),
+    )
     (rw (take-append-seam p rest, drop-append-seam p rest))
 
-written : (rs : List Record) → Sound rs → records (transcript rs) ≡ record { sound = rs; damaged = false }
-unfolding recordsUpTo
+written : (rs : List Record) → Every Sound rs → records (transcript rs) ≡ record { sound = rs; damaged = false }
+unfolding recordsUpTo flatMap
 written [] h = refl
 written (r ∷ rs) h =
     records-front (transcript (r ∷ rs))
@@ -59,56 +58,70 @@ written (r ∷ rs) h =
 
 -- the record that stands in front, written out
 abbrev Written : List ℕ → Record → List ℕ → Type 0
-Written s r rest = (s ≡ recordBytes r ++ rest) × (length (r .payload) ≤ 10248)
+Written s r rest = (s ≡ recordBytes r ++ rest) × Sound r
 
--- bytes are those of the number that they spell
-little-bytes : (s : List ℕ) → IsBytes s → littleBytes (length s) (little s) ≡ s
-little-bytes [] h = refl
-little-bytes (x ∷ s) h =
+bytes-behind : (u v : List ℕ) → IsBytes (u ++ v) → IsBytes v
+bytes-behind u v h i = rw (getD-append-add u v i 0) at (h (length u + i))
+
+-- bytes are those of the number that they spell, whatever follows
+little-bytes : (s t : List ℕ) → IsBytes (s ++ t) → littleBytes (length s) (little s) ≡ s
+little-bytes [] t h = refl
+little-bytes (x ∷ s) t h =
     let b : x < 256 = h 0 in
     let p : (x + 256 * little s) % 256 ≡ x = omega arith in
     let q : (x + 256 * little s) / 256 ≡ little s = omega arith in
-    rw (p, q) (ap (λ (l : List ℕ). x ∷ l) (little-bytes s (λ i. h (suc i))))
+    rw (p, q) (ap (λ (l : List ℕ). x ∷ l) (little-bytes s t (λ i. h (suc i))))
 
 module _ (a b c d e f : ℕ) (s : List ℕ) (h : IsBytes (a ∷ b ∷ c ∷ d ∷ e ∷ f ∷ s)) (r : Record) (rest : List ℕ) where
+  abbrev len : ℕ
+  len = little (a ∷ b ∷ c ∷ d ∷ [])
+
+  abbrev code : ℕ
+  code = little (e ∷ f ∷ [])
+
+  -- the record that was read, written out, is what was read
+  abbrev Back : Type 0
+  Back = Written (a ∷ b ∷ c ∷ d ∷ e ∷ f ∷ s) r rest
+
+  four : littleBytes 4 len ≡ a ∷ b ∷ c ∷ d ∷ []
+  four = little-bytes (a ∷ b ∷ c ∷ d ∷ []) (e ∷ f ∷ s) h
+
+  two : littleBytes 2 code ≡ e ∷ f ∷ []
+  two = little-bytes (e ∷ f ∷ []) s (λ i. h (suc (suc (suc (suc i)))))
+
   -- a payload of n bytes
-  payload-back : (side : Side) (n : ℕ) → little (e ∷ f ∷ []) ≡ kindOf side → little (a ∷ b ∷ c ∷ d ∷ []) ≡ n → n ≤ 10248 → behind s (head.Record side n) ≡ Front.sound r rest
-      → Written (a ∷ b ∷ c ∷ d ∷ e ∷ f ∷ s) r rest
+  payload-back : (side : Side) (n : ℕ) → code ≡ kindOf side → len ≡ n → n ≤ 10248 → behind s (head.Record side n) ≡ Front.sound r rest → Back
   payload-back side n k l m p =
       either (ltb (length s) n) _ _ p (λ cut q. apart (cc)) λ whole q.
-      let w = ltb-false (length s) n whole in
       let x : recordOf side (take n s) ≡ r = cc in
       let y : drop n s ≡ rest = cc in
-      let z = length-take-le n s w in
-      let four : littleBytes 4 n ≡ a ∷ b ∷ c ∷ d ∷ [] = ap (littleBytes 4) (sym l) ∙ little-bytes (a ∷ b ∷ c ∷ d ∷ []) (bytes-front (a ∷ b ∷ c ∷ d ∷ []) (e ∷ f ∷ s) h) in
-      let two : littleBytes 2 (kindOf side) ≡ e ∷ f ∷ [] = ap (littleBytes 2) (sym k) ∙ little-bytes (e ∷ f ∷ []) (bytes-front (e ∷ f ∷ []) s (bytes-behind (a ∷ b ∷ c ∷ d ∷ []) (e ∷ f ∷ s) h)) in
+      let z = length-take-le n s (ltb-false (length s) n whole) in
       let all : recordBytes (recordOf side (take n s)) ++ drop n s ≡ a ∷ b ∷ c ∷ d ∷ e ∷ f ∷ s =
-      ap (λ (i : ℕ). littleBytes 4 i ++ (littleBytes 2 (kindOf side) ++ take n s) ++ drop n s) z
+      ap (λ (i : ℕ). littleBytes 4 i ++ (littleBytes 2 (kindOf side) ++ take n s) ++ drop n s) (z ∙ sym l)
       ∙ ap (λ (l : List ℕ). l ++ (littleBytes 2 (kindOf side) ++ take n s) ++ drop n s) four
-      ∙ ap (λ (l : List ℕ). a ∷ b ∷ c ∷ d ∷ (l ++ take n s ++ drop n s)) two
+      ∙ ap (λ (l : List ℕ). a ∷ b ∷ c ∷ d ∷ (l ++ take n s ++ drop n s)) (ap (littleBytes 2) (sym k) ∙ two)
       ∙ ap (λ (l : List ℕ). a ∷ b ∷ c ∷ d ∷ e ∷ f ∷ l) (take-append-drop n s) in
       rw (← x, ← y) (sym all, omega arith)
 
-  kind-back : (n : ℕ) → little (a ∷ b ∷ c ∷ d ∷ []) ≡ n → n ≤ 10248 → behind s (sent (little (e ∷ f ∷ [])) n) ≡ Front.sound r rest → Written (a ∷ b ∷ c ∷ d ∷ e ∷ f ∷ s) r rest
-  kind-back n l m p = client (eqb (little (e ∷ f ∷ [])) 1) refl p
+  kind-back : (n : ℕ) → len ≡ n → n ≤ 10248 → behind s (sent code n) ≡ Front.sound r rest → Back
+  kind-back n l m p = client (eqb code 1) refl p
     where
-      server : (t : Bool) → eqb (little (e ∷ f ∷ [])) 2 ≡ t → behind s (if t (head.Record Server n) head.Damaged) ≡ Front.sound r rest → Written (a ∷ b ∷ c ∷ d ∷ e ∷ f ∷ s) r rest
+      server : (t : Bool) → eqb code 2 ≡ t → behind s (if t (head.Record Server n) head.Damaged) ≡ Front.sound r rest → Back
       server true k p = payload-back Server n (eqb-true _ _ k) l m p
       server false k p = apart (cc)
 
-      client : (t : Bool) → eqb (little (e ∷ f ∷ [])) 1 ≡ t
-          → behind s (if t (head.Record Client n) (if (eqb (little (e ∷ f ∷ [])) 2) (head.Record Server n) head.Damaged)) ≡ Front.sound r rest → Written (a ∷ b ∷ c ∷ d ∷ e ∷ f ∷ s) r rest
+      client : (t : Bool) → eqb code 1 ≡ t
+          → behind s (if t (head.Record Client n) (if (eqb code 2) (head.Record Server n) head.Damaged)) ≡ Front.sound r rest → Back
       client true k p = payload-back Client n (eqb-true _ _ k) l m p
-      client false k p = server (eqb (little (e ∷ f ∷ [])) 2) refl p
+      client false k p = server (eqb code 2) refl p
 
-  six-back : front (a ∷ b ∷ c ∷ d ∷ e ∷ f ∷ s) ≡ Front.sound r rest → Written (a ∷ b ∷ c ∷ d ∷ e ∷ f ∷ s) r rest
+  six-back : front (a ∷ b ∷ c ∷ d ∷ e ∷ f ∷ s) ≡ Front.sound r rest → Back
   unfolding front
-  six-back p = by (ltb 10248 (little (a ∷ b ∷ c ∷ d ∷ []))) refl (ap (behind s) (sym (head-six a b c d e f s)) ∙ p)
+  six-back p = by (ltb 10248 len) refl (ap (behind s) (sym (head-six a b c d e f s)) ∙ p)
     where
-      by : (t : Bool) → ltb 10248 (little (a ∷ b ∷ c ∷ d ∷ [])) ≡ t
-          → behind s (if t head.Damaged (sent (little (e ∷ f ∷ [])) (little (a ∷ b ∷ c ∷ d ∷ [])))) ≡ Front.sound r rest → Written (a ∷ b ∷ c ∷ d ∷ e ∷ f ∷ s) r rest
+      by : (t : Bool) → ltb 10248 len ≡ t → behind s (if t head.Damaged (sent code len)) ≡ Front.sound r rest → Back
       by true q p = apart (cc)
-      by false q p = kind-back (little (a ∷ b ∷ c ∷ d ∷ [])) refl (ltb-false _ _ q) p
+      by false q p = kind-back len refl (ltb-false _ _ q) p
 
 front-back : (s : List ℕ) → IsBytes s → (r : Record) (rest : List ℕ) → front s ≡ Front.sound r rest → Written s r rest
 unfolding front headOf
@@ -136,7 +149,7 @@ end-empty (b ∷ s) e = by (headOf (b ∷ s)) e
     by (head.Record side n) e = either (ltb (length (drop 6 (b ∷ s))) n) _ _ e (λ cut p. apart (cc)) (λ whole p. apart (cc))
 
 stops-upTo : (most : ℕ) (s : List ℕ) → length s ≤ most → IsBytes s → Stops s (recordsUpTo most s)
-unfolding recordsUpTo
+unfolding recordsUpTo flatMap
 stops-upTo zero [] l h = record { sound = tt; rest = []; split = refl; whole = λ e. refl; cut = λ e. apart (cc) }
 stops-upTo zero (b ∷ s) l h = absurd (omega arith)
 stops-upTo (suc most) s l h = by (front s) refl (stops-upTo most)
@@ -168,7 +181,8 @@ rest-ends true rest h whole cut = sym (records-front rest ∙ ap (fromFront reco
     by Front.damaged e = refl
     by (Front.sound r more) e = let w = front-back rest h r more e in absurd (cut refl .1 r more (w .1) (w .0))
 
-read-only : (rs : List Record) (d : Bool) (rest : List ℕ) → Sound rs → record { sound = []; damaged = d } ≡ records rest → record { sound = rs; damaged = d } ≡ records (transcript rs ++ rest)
+read-only : (rs : List Record) (d : Bool) (rest : List ℕ) → Every Sound rs → record { sound = []; damaged = d } ≡ records rest → record { sound = rs; damaged = d } ≡ records (transcript rs ++ rest)
+unfolding flatMap
 read-only [] d rest h e = e
 read-only (r ∷ rs) d rest h e =
     sym (records-front (transcript (r ∷ rs) ++ rest)
@@ -186,7 +200,4 @@ format = record {
   read-written = written;
   stops = λ s h. stops-upTo (length s) s (omega arith) h;
   stops-only = stopped;
-  digits-back = digits-back;
-  digits = λ n. (digits-all n, leading n);
-  digits-only = digits-only;
 }

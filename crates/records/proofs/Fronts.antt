@@ -5,7 +5,7 @@ use mathlib.Core.List.{List, [], _∷_}
 use Prim.Native.Nat.{ℕ, _+_, _-_, _≤_, _<_}
 use native.Mathlib.Omega.{arith}
 use lib.Dec.{ltb}
-use lib.ListN.{length, take, drop, length-drop, drop-of-length-le}
+use lib.ListN.{length, take, drop, length-take, length-drop, drop-of-length-le}
 use lib.Seq.{take-all, length-take-le, drop-drop}
 use borrow.Author.Tests.{lt-ltb, le-ltb, ltb-true, ltb-false}
 use Rattle.wire.specs.Bytes.{if}
@@ -35,24 +35,30 @@ module _ (s : List ℕ) (at : ℕ) (h : at < length s) where
   front-judged : {x : Head} → headOf (take (length s - at) (drop at s)) ≡ x → front (drop at s) ≡ behind (drop 6 (drop at s)) x
   front-judged e = front-some (drop at s) (omega (arith, length-drop at s)) ∙ ap (behind (drop 6 (drop at s))) (ap headOf (sym (rest-part s at)) ∙ e)
 
-  left : length (drop 6 (drop at s)) ≡ length s - (at + 6)
-  left = ap length (drop-drop 6 at s) ∙ length-drop (at + 6) s
+  behind-length : length (drop 6 (drop at s)) ≡ length s - (at + 6)
+  behind-length = ap length (drop-drop 6 at s) ∙ length-drop (at + 6) s
 
   pub next-bad : headOf (take (length s - at) (drop at s)) ≡ head.Damaged → next.Damaged ≡ located at (front (drop at s))
   next-bad e = sym (ap (located at) (front-judged e))
 
   pub next-cut : {side : Side} {n : ℕ} → headOf (take (length s - at) (drop at s)) ≡ head.Record side n → length s - (at + 6) < n → next.Damaged ≡ located at (front (drop at s))
-  next-cut {side} {n} e k = rw (front-judged e, lt-ltb (length (drop 6 (drop at s))) n (omega (arith, left)))
+  next-cut {side} {n} e k = rw (front-judged e, lt-ltb (length (drop 6 (drop at s))) n (omega (arith, behind-length)))
 
   pub next-whole : {side : Side} {n : ℕ} → headOf (take (length s - at) (drop at s)) ≡ head.Record side n → n ≤ length s - (at + 6)
       → next.Record side (record { start = at + 6; len = n }) ≡ located at (front (drop at s))
   next-whole {side} {n} e k =
-      let l : n ≤ length (drop 6 (drop at s)) = omega (arith, left) in
+      let l : n ≤ length (drop 6 (drop at s)) = omega (arith, behind-length) in
       rw (front-judged e, le-ltb (length (drop 6 (drop at s))) n l) (ap (λ (m : ℕ). next.Record side (record { start = at + 6; len = m })) (sym (length-take-le n (drop 6 (drop at s)) l)))
 
 -- a payload has its bound
 pub payload-bound : (room : ℕ) {h : Head} {side : Side} {n : ℕ} → Bounded room h → h ≡ head.Record side n → n ≤ 10248
 payload-bound room b e = subst (Bounded room) e b .1
+
+-- and a head that was read from `at` on has its six bytes there
+pub head-fits : (s : List ℕ) (at : ℕ) {x : Head} {side : Side} {n : ℕ} → Bounded (length (take (length s - at) (drop at s))) x → x ≡ head.Record side n → at + 6 ≤ length s
+head-fits s at b e =
+    let w = subst (Bounded (length (take (length s - at) (drop at s)))) e b in
+    omega (arith, w .0, length-take (length s - at) (drop at s), length-drop at s)
 
 -- a head has six bytes
 head-long : (s : List ℕ) {side : Side} {n : ℕ} → headOf s ≡ head.Record side n → 6 ≤ length s

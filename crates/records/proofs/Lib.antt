@@ -1,13 +1,5 @@
-pub mod ByTurns
-pub mod Decimals
-pub mod Example
 pub mod Formats
 pub mod Fronts
-pub mod Judged
-pub mod Lines
 pub mod Little
-pub mod Replays
-pub mod Rooms
+pub mod Reach
 pub mod Runs
-pub mod Spelt
-pub mod Unchanged

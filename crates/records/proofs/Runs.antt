@@ -1,19 +1,14 @@
--- A transcript, record by record: what is printed for the first one, and for what stands behind it.
-use mathlib.Core.Bool.{true, false}
-use mathlib.Core.List.{List, [], _∷_, _++_, append-assoc}
+-- The records of an input are its first one, and those of the input behind it.
+use mathlib.Core.List.{List, [], _∷_}
 use mathlib.Core.Path.{_≡_, refl, ap, _∙_}
-use Prim.Native.Nat.{ℕ, zero, suc, _+_, _≤_, _<_}
+use Prim.Native.Nat.{ℕ, zero, suc, _≤_, _<_}
 use native.Mathlib.Omega.{arith}
 use lib.Dec.{ltb}
 use lib.ListN.{length, drop, length-drop}
 use Rattle.wire.proofs.Branches.{apart, either}
-use Rattle.session.specs.declared.Session.{Session}
 use Rattle.records.specs.declared.Head.{Head}
 use Rattle.records.specs.declared.Head.the-variants as head
-use Rattle.records.specs.Answer.{answered}
-use Rattle.records.specs.Output.{lineIn}
 use Rattle.records.specs.Record.{Record, headOf, Front, behind, front, Records, fromFront, recordsUpTo, records}
-use Rattle.records.specs.Transcript.{answers, lines, lastLine, printedOf}
 
 -- behind a record less is left
 pub shorter : (s : List ℕ) (r : Record) (rest : List ℕ) → front s ≡ Front.sound r rest → length rest < length s
@@ -57,13 +52,3 @@ records-front s = enough (length s) (suc (length s)) s (omega arith) (omega arit
     by (Front.sound r rest) e =
         let l = shorter s r rest e in
         ap (λ (m : Records). record { sound = r ∷ m .sound; damaged = m .damaged }) (enough (length s) (length rest) rest (omega arith) (omega arith))
-
-module _ (n : ℕ) (u : Session) (s : List ℕ) where
-  pub prints-end : front s ≡ Front.end → printedOf n u (records s) ≡ lastLine false u
-  prints-end e = rw (records-front s, e)
-
-  pub prints-damaged : front s ≡ Front.damaged → printedOf n u (records s) ≡ lastLine true u
-  prints-damaged e = rw (records-front s, e)
-
-  pub prints-sound : (r : Record) (rest : List ℕ) → front s ≡ Front.sound r rest → printedOf n u (records s) ≡ lineIn n u r ++ printedOf (n + 1) (answered u r .session) (records rest)
-  prints-sound r rest e = rw (records-front s, e) (append-assoc (lineIn n u r) (lines (n + 1) (records rest .sound) (answers (answered u r .session) (records rest .sound))) _)

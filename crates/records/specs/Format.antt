@@ -1,13 +1,12 @@
--- The same sentence of document 01 written out, with no reader in it; and what it is for `records` and `decimal` to be right.
+-- The same sentence of document 01 written out, with no reader in it; and what it is for `records` to be right.
 use mathlib.Core.Bool.{true, false}
-use mathlib.Core.List.{List, [], _∷_, _++_}
+use mathlib.Core.List.{List, [], _∷_, _++_, flatMap}
 use mathlib.Core.Path.{_≡_}
-use Prim.Native.Nat.{ℕ, zero, suc, _+_, _-_, _*_, _/_, _%_, _≤_, _<_}
+use Prim.Native.Nat.{ℕ, zero, suc, _/_, _%_, _≤_, _<_}
 use lib.ListN.{length}
 use Rattle.wire.specs.Bytes.{IsBytes}
+use Rattle.wire.specs.Every.{Every}
 use Rattle.sedna.specs.declared.Side.{Side}
-use Rattle.sedna.specs.declared.Side.the-variants.{Client, Server}
-use Rattle.records.specs.Line.{decimal}
 use Rattle.records.specs.Record.{Record, Records, records}
 
 -- a number in so many bytes, "little-endian"
@@ -17,8 +16,8 @@ littleBytes (suc k) n = n % 256 ∷ littleBytes k (n / 256)
 
 -- "1 client, 2 server"
 abbrev pub kindOf : Side → ℕ
-kindOf Client = 1
-kindOf Server = 2
+kindOf Side.Client = 1
+kindOf Side.Server = 2
 
 -- "payload length (four bytes, little-endian, ...), kind (two bytes, little-endian, ...), payload"
 abbrev pub recordBytes : Record → List ℕ
@@ -26,53 +25,29 @@ recordBytes r = littleBytes 4 (length (r .payload)) ++ (littleBytes 2 (kindOf (r
 
 -- records one behind the other
 abbrev pub transcript : List Record → List ℕ
-transcript [] = []
-transcript (r ∷ rs) = recordBytes r ++ transcript rs
+transcript = flatMap recordBytes
 
 -- "at most 10,248"
-abbrev pub Sound : List Record → Type 0
-Sound [] = Unit {0}
-Sound (r ∷ rs) = (length (r .payload) ≤ 10248) × Sound rs
+abbrev pub Sound : Record → Type 0
+Sound r = length (r .payload) ≤ 10248
 
 -- no sound record stands in front
 abbrev pub NoRecord : List ℕ → Type 0
-NoRecord s = (r : Record) (more : List ℕ) → length (r .payload) ≤ 10248 → ¬ (s ≡ recordBytes r ++ more)
+NoRecord s = (r : Record) (more : List ℕ) → Sound r → ¬ (s ≡ recordBytes r ++ more)
 
 -- an input is its records, written out; behind them nothing is left, or, where it is damaged, something with no sound record in front
 pub record Stops (s : List ℕ) (rs : Records) : Type 0 where
-  pub sound : Sound (rs .sound)
+  pub sound : Every Sound (rs .sound)
   pub rest : List ℕ
   pub split : s ≡ transcript (rs .sound) ++ rest
   pub whole : rs .damaged ≡ false → rest ≡ []
   pub cut : rs .damaged ≡ true → (0 < length rest) × NoRecord rest
 
--- the number that digits spell behind those that spell n
-abbrev pub spelt : ℕ → List ℕ → ℕ
-spelt n [] = n
-spelt n (c ∷ s) = spelt (n * 10 + (c - 48)) s
-
--- characters '0' to '9'
-abbrev pub Digits : List ℕ → Type 0
-Digits [] = Unit {0}
-Digits (c ∷ s) = ((48 ≤ c) × (c ≤ 57)) × Digits s
-
--- at least one, and a '0' in front stands alone
-abbrev pub Leading : List ℕ → Type 0
-Leading [] = ⊥
-Leading (c ∷ []) = Unit {0}
-Leading (c ∷ d ∷ s) = ¬ (c ≡ 48)
-
 -- the bytes of a slice are bytes: `IsBytes s` is no condition on a caller
 pub record Format : Type 0 where
   -- records that are written out are read again
-  pub read-written : (rs : List Record) → Sound rs → records (transcript rs) ≡ record { sound = rs; damaged = false }
+  pub read-written : (rs : List Record) → Every Sound rs → records (transcript rs) ≡ record { sound = rs; damaged = false }
   -- and what is read was written so, up to the end or the damage
   pub stops : (s : List ℕ) → IsBytes s → Stops s (records s)
   -- nothing else can be read there
   pub stops-only : (s : List ℕ) → IsBytes s → (rs : Records) → Stops s rs → rs ≡ records s
-  -- the digits of a number spell it
-  pub digits-back : (n : ℕ) → spelt 0 (decimal n) ≡ n
-  -- they are digits, with no zero ahead of others
-  pub digits : (n : ℕ) → Digits (decimal n) × Leading (decimal n)
-  -- no other such digits spell it
-  pub digits-only : (s : List ℕ) → Digits s → Leading s → s ≡ decimal (spelt 0 s)

@@ -1,10 +1,3 @@
 pub mod Record
 pub mod Places
-pub mod Answer
-pub mod Line
-pub mod Transcript
-pub mod Output
-pub mod Turn
-pub mod Unchanged
-pub mod Example
 pub mod Format

@@ -7,9 +7,7 @@ use lib.Dec.{ltb, eqb}
 use lib.ListN.{length, take, drop}
 use Rattle.wire.specs.Bytes.{if}
 use Rattle.sedna.specs.declared.Side.{Side}
-use Rattle.sedna.specs.declared.Side.the-variants.{Client, Server}
 use Rattle.records.specs.declared.Head.{Head}
-use Rattle.records.specs.declared.Head.the-variants as head
 
 -- the number that bytes spell, "little-endian"
 abbrev pub little : List ℕ → ℕ
@@ -18,14 +16,14 @@ little (b ∷ s) = b + 256 * little s
 
 -- "1 client, 2 server": who sent a payload of n bytes; another kind is bad
 abbrev pub sent : ℕ → ℕ → Head
-sent kind n = if (eqb kind 1) (head.Record Client n) (if (eqb kind 2) (head.Record Server n) head.Damaged)
+sent kind n = if (eqb kind 1) (Head.Record Side.Client n) (if (eqb kind 2) (Head.Record Side.Server n) Head.Damaged)
 
 -- the six bytes ahead of a payload: who sent it and its length; "damaged at a bad length or kind or a cut record"
 unfoldable pub headOf : List ℕ → Head
 headOf s =
     if (ltb (length s) 6)
-    head.Damaged
-    (if (ltb 10248 (little (take 4 s))) head.Damaged (sent (little (take 2 (drop 4 s))) (little (take 4 s))))
+    Head.Damaged
+    (if (ltb 10248 (little (take 4 s))) Head.Damaged (sent (little (take 2 (drop 4 s))) (little (take 4 s))))
 
 -- one record: who sent its payload, and the payload
 pub record Record : Type 0 where
@@ -43,8 +41,8 @@ pub data Front : Type 0 where
 
 -- the payload behind a head, in what is left of the input
 abbrev pub behind : List ℕ → Head → Front
-behind s head.Damaged = Front.damaged
-behind s (head.Record side n) = if (ltb (length s) n) Front.damaged (Front.sound (recordOf side (take n s)) (drop n s))
+behind s Head.Damaged = Front.damaged
+behind s (Head.Record side n) = if (ltb (length s) n) Front.damaged (Front.sound (recordOf side (take n s)) (drop n s))
 
 -- an input that has a byte left has a head in front, whole or cut
 unfoldable pub front : List ℕ → Front

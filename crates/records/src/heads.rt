@@ -2,8 +2,8 @@
 ghost use mathlib.Core.Path.{_≡_};
 ghost use Prim.Native.Nat.{_<_, _≤_};
 ghost use lib.ListN.{length, take, drop};
-ghost use Rattle.records.specs.Record.{little, headOf, front};
-ghost use Rattle.records.specs.Places.{located, Bounded};
+ghost use Rattle.records.specs.Record.{little, front};
+ghost use Rattle.records.specs.Places.{located, HeadRead};
 use crate::Head;
 use crate::Next;
 use sedna::Side;
@@ -32,7 +32,7 @@ fn kind(s: &[u8]) -> usize
 
 // Judges the six bytes that stand in front; fewer are a cut record.
 pub fn judge_head(bytes: &[u8]) -> Head
-    ensures { λ r. ⌜ (r ≡ headOf (now (bytes .entry))) × Bounded (length (now (bytes .entry))) r ⌝ }
+    ensures { λ r. ⌜ HeadRead (now (bytes .entry)) r ⌝ }
 {
     if bytes.len() < 6 {
         return Head::Damaged;

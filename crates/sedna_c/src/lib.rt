@@ -1,33 +1,23 @@
-// Reading and writing for programs in C and Rust: numbers and slices in, numbers out. An answer
-// above 2^63 is a refusal, its number on top of 2^63.
+// Reading, writing and the session for programs in C and Rust: numbers and slices in, numbers
+// out. An answer above 2^63 is a refusal, its number on top of 2^63.
 ghost use mathlib.Core.List.{_++_};
 ghost use mathlib.Core.Path.{_≡_};
 ghost use Prim.Native.Nat.{_≤_};
 ghost use lib.ListN.{length, take, drop};
 ghost use Rattle.sedna.specs.Message.{Url, Body, message};
 ghost use Rattle.sedna_read.specs.Places.{optionAt};
-ghost use Rattle.sedna_write.specs.Pairs.{optionsWritten, optionsLeft};
-ghost use Rattle.sedna_write.specs.Writing.{written, left};
-ghost use Rattle.sedna_c.specs.Codes.{writtenCode, fieldList, fieldsOf, optionCode, optionLeft};
+ghost use Rattle.sedna_c.specs.Codes.{fieldList, fieldsOf, TellsOption};
+ghost use Rattle.sedna_c.specs.Codes.{WritesMessageByCode, WritesOptionsByCode};
+use answer_c::counted_code;
+use answer_c::refusal_code;
 use sedna_read::OptionPlace;
 use sedna_read::Places;
 use sedna_read::UrlPlace;
-use sedna_write::Written;
 use wire::Place;
 use wire::Refusal;
-use wire::refusal_code;
 
 mod sessions;
 pub mod sides;
-
-pub fn written_code(w: Written) -> u64
-    ensures { λ n. ⌜ n ≡ writtenCode w ⌝ }
-{
-    match w {
-        Written::Bytes(n) => n as u64,
-        Written::Refused(r) => refusal_code(r),
-    }
-}
 
 // Ten numbers to the front of the lent fields.
 fn store(
@@ -121,7 +111,7 @@ pub extern "C" fn kdr_option(
     k: usize,
     fields: &mut [u64],
 ) -> u64
-    ensures { λ r. ⌜ (r ≡ optionCode (optionAt k start (take len (drop start (now (bytes .entry))))) (length (now (fields .entry)))) × (now (fields .exit) ≡ optionLeft (optionAt k start (take len (drop start (now (bytes .entry))))) (now (fields .entry))) ⌝ }
+    ensures { λ r. ⌜ TellsOption (optionAt k start (take len (drop start (now (bytes .entry))))) (now (fields .entry)) r (now (fields .exit)) ⌝ }
 {
     match sedna_read::option_at(bytes, Place { start, len }, k) {
         OptionPlace::Missing => 0,
@@ -139,9 +129,9 @@ pub extern "C" fn kdr_option(
 
 #[no_mangle]
 pub extern "C" fn kdr_write_empty(out: &mut [u8], instruction: u32) -> u64
-    ensures { λ r. ⌜ (r ≡ writtenCode (written (length (now (out .entry))) (message instruction Body.empty))) × (now (out .exit) ≡ left (now (out .entry)) (message instruction Body.empty) (written (length (now (out .entry))) (message instruction Body.empty))) ⌝ }
+    ensures { λ r. ⌜ WritesMessageByCode (now (out .entry)) (message instruction Body.empty) r (now (out .exit)) ⌝ }
 {
-    written_code(sedna_write::write_empty(out, instruction))
+    counted_code(sedna_write::write_empty(out, instruction))
 }
 
 #[no_mangle]
@@ -153,16 +143,17 @@ pub extern "C" fn kdr_write_session(
     user: &[u8],
     database: &[u8],
 ) -> u64
-    ensures { λ r. ⌜ (r ≡ writtenCode (written (length (now (out .entry))) (message instruction (Body.session major minor (now (user .entry)) (now (database .entry)))))) × (now (out .exit) ≡ left (now (out .entry)) (message instruction (Body.session major minor (now (user .entry)) (now (database .entry)))) (written (length (now (out .entry))) (message instruction (Body.session major minor (now (user .entry)) (now (database .entry)))))) ⌝ }
+    ensures { λ r. ⌜ WritesMessageByCode (now (out .entry))
+        (message instruction (Body.session major minor (now (user .entry)) (now (database .entry)))) r (now (out .exit)) ⌝ }
 {
-    written_code(sedna_write::write_session(out, instruction, major, minor, user, database))
+    counted_code(sedna_write::write_session(out, instruction, major, minor, user, database))
 }
 
 #[no_mangle]
 pub extern "C" fn kdr_write_text(out: &mut [u8], instruction: u32, text: &[u8]) -> u64
-    ensures { λ r. ⌜ (r ≡ writtenCode (written (length (now (out .entry))) (message instruction (Body.text (now (text .entry)))))) × (now (out .exit) ≡ left (now (out .entry)) (message instruction (Body.text (now (text .entry)))) (written (length (now (out .entry))) (message instruction (Body.text (now (text .entry)))))) ⌝ }
+    ensures { λ r. ⌜ WritesMessageByCode (now (out .entry)) (message instruction (Body.text (now (text .entry)))) r (now (out .exit)) ⌝ }
 {
-    written_code(sedna_write::write_text(out, instruction, text))
+    counted_code(sedna_write::write_text(out, instruction, text))
 }
 
 #[no_mangle]
@@ -172,16 +163,16 @@ pub extern "C" fn kdr_write_statement(
     format: u8,
     text: &[u8],
 ) -> u64
-    ensures { λ r. ⌜ (r ≡ writtenCode (written (length (now (out .entry))) (message instruction (Body.statement format (now (text .entry)))))) × (now (out .exit) ≡ left (now (out .entry)) (message instruction (Body.statement format (now (text .entry)))) (written (length (now (out .entry))) (message instruction (Body.statement format (now (text .entry)))))) ⌝ }
+    ensures { λ r. ⌜ WritesMessageByCode (now (out .entry)) (message instruction (Body.statement format (now (text .entry)))) r (now (out .exit)) ⌝ }
 {
-    written_code(sedna_write::write_statement(out, instruction, format, text))
+    counted_code(sedna_write::write_statement(out, instruction, format, text))
 }
 
 #[no_mangle]
 pub extern "C" fn kdr_write_coded(out: &mut [u8], instruction: u32, code: u32, text: &[u8]) -> u64
-    ensures { λ r. ⌜ (r ≡ writtenCode (written (length (now (out .entry))) (message instruction (Body.coded code (now (text .entry)))))) × (now (out .exit) ≡ left (now (out .entry)) (message instruction (Body.coded code (now (text .entry)))) (written (length (now (out .entry))) (message instruction (Body.coded code (now (text .entry)))))) ⌝ }
+    ensures { λ r. ⌜ WritesMessageByCode (now (out .entry)) (message instruction (Body.coded code (now (text .entry)))) r (now (out .exit)) ⌝ }
 {
-    written_code(sedna_write::write_coded(out, instruction, code, text))
+    counted_code(sedna_write::write_coded(out, instruction, code, text))
 }
 
 #[no_mangle]
@@ -192,9 +183,9 @@ pub extern "C" fn kdr_write_item(
     kind: u8,
     part: &[u8],
 ) -> u64
-    ensures { λ r. ⌜ (r ≡ writtenCode (written (length (now (out .entry))) (message instruction (Body.item class kind Url.absent (now (part .entry)))))) × (now (out .exit) ≡ left (now (out .entry)) (message instruction (Body.item class kind Url.absent (now (part .entry)))) (written (length (now (out .entry))) (message instruction (Body.item class kind Url.absent (now (part .entry)))))) ⌝ }
+    ensures { λ r. ⌜ WritesMessageByCode (now (out .entry)) (message instruction (Body.item class kind Url.absent (now (part .entry)))) r (now (out .exit)) ⌝ }
 {
-    written_code(sedna_write::write_item(out, instruction, class, kind, part))
+    counted_code(sedna_write::write_item(out, instruction, class, kind, part))
 }
 
 #[no_mangle]
@@ -206,9 +197,10 @@ pub extern "C" fn kdr_write_item_url(
     url: &[u8],
     part: &[u8],
 ) -> u64
-    ensures { λ r. ⌜ (r ≡ writtenCode (written (length (now (out .entry))) (message instruction (Body.item class kind (Url.present (now (url .entry))) (now (part .entry)))))) × (now (out .exit) ≡ left (now (out .entry)) (message instruction (Body.item class kind (Url.present (now (url .entry))) (now (part .entry)))) (written (length (now (out .entry))) (message instruction (Body.item class kind (Url.present (now (url .entry))) (now (part .entry)))))) ⌝ }
+    ensures { λ r. ⌜ WritesMessageByCode (now (out .entry))
+        (message instruction (Body.item class kind (Url.present (now (url .entry))) (now (part .entry)))) r (now (out .exit)) ⌝ }
 {
-    written_code(sedna_write::write_item_url(out, instruction, class, kind, url, part))
+    counted_code(sedna_write::write_item_url(out, instruction, class, kind, url, part))
 }
 
 #[no_mangle]
@@ -219,9 +211,8 @@ pub extern "C" fn kdr_write_options(
     lengths: &[usize],
     values: &[u8],
 ) -> u64
-    ensures { λ r. ⌜ (r ≡ writtenCode (optionsWritten (length (now (out .entry))) instruction (now (ids .entry)) (now (lengths .entry)) (now (values .entry))))
-        × (now (out .exit) ≡ optionsLeft (now (out .entry)) instruction (now (ids .entry)) (now (lengths .entry)) (now (values .entry))
-        (optionsWritten (length (now (out .entry))) instruction (now (ids .entry)) (now (lengths .entry)) (now (values .entry)))) ⌝ }
+    ensures { λ r. ⌜ WritesOptionsByCode (now (out .entry))
+        instruction (now (ids .entry)) (now (lengths .entry)) (now (values .entry)) r (now (out .exit)) ⌝ }
 {
-    written_code(sedna_write::write_options(out, instruction, ids, lengths, values))
+    counted_code(sedna_write::write_options(out, instruction, ids, lengths, values))
 }

@@ -4,13 +4,15 @@ ghost use mathlib.Core.Path.{_≡_};
 ghost use Prim.Native.Nat.{_≤_};
 ghost use lib.ListN.{length};
 ghost use Rattle.wire.specs.Bytes.{if};
+ghost use Rattle.wire.specs.Call.{Gives};
 ghost use Rattle.session.specs.Machine.{moveOf};
-ghost use Rattle.sedna_c.specs.Codes.{readCode, fieldsLeft, sideReading};
-ghost use Rattle.sedna_c.specs.Sessions.{recordIn, recordPut, freshCode, freshLeft, senderOf, answerOf, leads, ledTo};
-ghost use Rattle.sedna_c.specs.Sessions.{stepCode, stepFields, stepLeft, closedCode, turnCode, turnNumber};
+ghost use Rattle.sedna_c.specs.Codes.{sideReading, TellsReading};
+ghost use Rattle.sedna_c.specs.Sessions.{recordIn, recordPut, freshCode, freshLeft, Steps, closedCode, turnCode, turnNumber};
+ghost use Rattle.sedna_c.specs.inner.Taking.{phaseAfter, Settles, Takes};
 use crate::sides::Sender;
 use crate::sides::sender_of;
 use crate::store_places;
+use answer_c::refusal_code;
 use sedna::Found;
 use sedna::Side;
 use sedna_read::Reading;
@@ -19,7 +21,6 @@ use session::Turn;
 use session::machine::next_found;
 use session::phase::REFUSED;
 use wire::Refusal;
-use wire::refusal_code;
 
 fn record_in(session: &[u8]) -> Session
     requires { ⌜ 2 ≤ length (now session) ⌝ }
@@ -42,7 +43,7 @@ fn put(session: &mut [u8], after: Session)
 // Puts a fresh session into the first two bytes.
 #[no_mangle]
 pub extern "C" fn kdr_fresh(session: &mut [u8]) -> u64
-    ensures { λ r. ⌜ (r ≡ freshCode (now (session .entry))) × (now (session .exit) ≡ freshLeft (now (session .entry))) ⌝ }
+    ensures { λ r. ⌜ Gives (freshCode (now (session .entry))) (freshLeft (now (session .entry))) r (now (session .exit)) ⌝ }
 {
     if session.len() < 2 {
         return refusal_code(Refusal::NoRoom);
@@ -51,11 +52,11 @@ pub extern "C" fn kdr_fresh(session: &mut [u8]) -> u64
     0
 }
 
-// An answer as a number; what was accepted goes to the lent fields, and leads the record to the
-// phase `to`. All or nothing.
-fn answer_code(answer: Reading, to: u8, session: &mut [u8], fields: &mut [u64]) -> u64
+// An answer as a number; what was accepted goes to the lent fields, and is kept in the record, with
+// that phase after it. All or nothing.
+fn answer_code(answer: Reading, phase: u8, session: &mut [u8], fields: &mut [u64]) -> u64
     requires { ⌜ 2 ≤ length (now session) ⌝ }
-    ensures { λ r. ⌜ (r ≡ readCode answer (length (now (fields .entry)))) × (now (session .exit) ≡ ledTo to answer (length (now (fields .entry))) (now (session .entry))) × (now (fields .exit) ≡ fieldsLeft answer (now (fields .entry))) ⌝ }
+    ensures { λ r. ⌜ Settles answer phase (now (session .entry)) (now (fields .entry)) r (now (session .exit)) (now (fields .exit)) ⌝ }
 {
     match answer {
         Reading::Refused(r) => refusal_code(r),
@@ -67,18 +68,19 @@ fn answer_code(answer: Reading, to: u8, session: &mut [u8], fields: &mut [u64]) 
             if fields.len() < 10 {
                 return refusal_code(Refusal::NoRoom);
             }
-            let led = session::after(record_in(session), to, answer);
-            put(session, led);
+            let after = session::after(record_in(session), phase, answer);
+            put(session, after);
             store_places(fields, instruction, places);
             count as u64
         }
     }
 }
 
-// The phase that a step leads to; for reading alone, any.
-fn lead(stepping: bool, found: Found, session: &[u8], i: u32) -> u8
+// The phase after a step with the instruction i; for reading alone, any.
+fn phase_after(stepping: bool, found: Found, session: &[u8], i: u32) -> u8
     requires { ⌜ 2 ≤ length (now session) ⌝ }
-    ensures { λ r. ⌜ r ≡ if stepping (moveOf found (recordIn (now (session .entry)) .phase) (recordIn (now (session .entry)) .version) i) 0 ⌝ }
+    ensures { λ r. ⌜ r
+        ≡ if stepping (moveOf found (recordIn (now (session .entry)) .phase) (recordIn (now (session .entry)) .version) i) 0 ⌝ }
 {
     if stepping {
         let before = record_in(session);
@@ -88,21 +90,22 @@ fn lead(stepping: bool, found: Found, session: &[u8], i: u32) -> u8
     }
 }
 
-// Reads a message for both exports, and judges 9 where it leads to no phase. Its instruction is
+// Reads a message for both exports, and judges 9 where no phase is after it. Its instruction is
 // found once. The one call of the reader: the compiler then makes one function of the two, and no
 // message is put together in memory.
 fn take(side: u8, bytes: &[u8], stepping: bool, session: &mut [u8], fields: &mut [u64]) -> u64
     requires { ⌜ 2 ≤ length (now session) ⌝ }
-    ensures { λ r. ⌜ (r ≡ readCode (answerOf (senderOf side) (leads stepping (recordIn (now (session .entry))) (now (bytes .entry))) (now (bytes .entry))) (length (now (fields .entry)))) × (now (session .exit) ≡ ledTo (leads stepping (recordIn (now (session .entry))) (now (bytes .entry))) (answerOf (senderOf side) (leads stepping (recordIn (now (session .entry))) (now (bytes .entry))) (now (bytes .entry))) (length (now (fields .entry))) (now (session .entry))) × (now (fields .exit) ≡ fieldsLeft (answerOf (senderOf side) (leads stepping (recordIn (now (session .entry))) (now (bytes .entry))) (now (bytes .entry))) (now (fields .entry))) ⌝ }
+    ensures { λ r. ⌜ Takes side (now (bytes .entry)) (phaseAfter stepping (recordIn (now (session .entry))) (now (bytes .entry)))
+        (now (session .entry)) (now (fields .entry)) r (now (session .exit)) (now (fields .exit)) ⌝ }
 {
     match sender_of(side) {
         Sender::Nobody => refusal_code(Refusal::ValueNotAllowed),
         Sender::Is(s) => {
             let i = wire::get_int(bytes, 0);
             let found = sedna::find(i);
-            let to = lead(stepping, found, session, i);
-            let answer = sedna_read::read_found(found, s, bytes, to != REFUSED);
-            answer_code(answer, to, session, fields)
+            let phase = phase_after(stepping, found, session, i);
+            let answer = sedna_read::read_found(found, s, bytes, phase != REFUSED);
+            answer_code(answer, phase, session, fields)
         }
     }
 }
@@ -111,7 +114,7 @@ fn take(side: u8, bytes: &[u8], stepping: bool, session: &mut [u8], fields: &mut
 // instruction, shape, two numbers, two places, a count and whether there is a URL; see fieldsOf.
 #[no_mangle]
 pub extern "C" fn kdr_read(side: u8, bytes: &[u8], fields: &mut [u64]) -> u64
-    ensures { λ r. ⌜ (r ≡ readCode (sideReading side (now (bytes .entry))) (length (now (fields .entry)))) × (now (fields .exit) ≡ fieldsLeft (sideReading side (now (bytes .entry))) (now (fields .entry))) ⌝ }
+    ensures { λ r. ⌜ TellsReading (sideReading side (now (bytes .entry))) (now (fields .entry)) r (now (fields .exit)) ⌝ }
 {
     let mut no_session = [0u8; 2];
     take(side, bytes, false, &mut no_session, fields)
@@ -121,7 +124,7 @@ pub extern "C" fn kdr_read(side: u8, bytes: &[u8], fields: &mut [u64]) -> u64
 // sent: 1 is the client, 2 the server. The fields are those of kdr_read.
 #[no_mangle]
 pub extern "C" fn kdr_step(session: &mut [u8], side: u8, bytes: &[u8], fields: &mut [u64]) -> u64
-    ensures { λ r. ⌜ (r ≡ stepCode (now (session .entry)) side (now (bytes .entry)) (length (now (fields .entry)))) × (now (session .exit) ≡ stepLeft (now (session .entry)) side (now (bytes .entry)) (length (now (fields .entry)))) × (now (fields .exit) ≡ stepFields (now (session .entry)) side (now (bytes .entry)) (now (fields .entry))) ⌝ }
+    ensures { λ r. ⌜ Steps (now (session .entry)) side (now (bytes .entry)) (now (fields .entry)) r (now (session .exit)) (now (fields .exit)) ⌝ }
 {
     if session.len() < 2 {
         return refusal_code(Refusal::NoRoom);

@@ -1,6 +1,6 @@
 // Sides as numbers.
 ghost use mathlib.Core.Path.{_≡_};
-ghost use Rattle.sedna_c.specs.Sessions.{senderOf};
+ghost use Rattle.sedna_c.specs.Codes.{senderOf};
 use sedna::Side;
 
 // Who sent a message: side 1 is the client, 2 the server.

@@ -1,6 +1,6 @@
 pub mod Kept
 pub mod Numbers
 pub mod Runs
-pub mod Twos
+pub mod TwoDigits
 pub mod Walks
 pub mod Powers

@@ -2,13 +2,16 @@
 use mathlib.Core.Path.{_≡_, refl, ap, _∙_}
 use mathlib.Core.List.{List, [], _∷_, _++_}
 use mathlib.Core.Bool.{Bool, true, false}
-use Prim.Native.Nat.{ℕ, _+_, _-_}
+use Prim.Native.Nat.{ℕ, _+_, _-_, _^_, _≤_, _<_}
+use native.Mathlib.Nat.{pow-le-pow-right}
 use native.Mathlib.Omega.{arith}
 use lib.ListN.{length, drop, getD}
 use Rattle.wire.specs.Bytes.{if}
-use Rattle.sedna_digits.specs.Numbers.{AreDigits, text}
-use Rattle.sedna_digits.specs.Digits.{isDigit, run}
-use Rattle.sedna_digits.proofs.Twos.{digit-byte, digit-text}
+use Rattle.sedna_digits.specs.Numbers.{number, AreDigits, text}
+use Rattle.sedna_digits.specs.Digits.{isDigit, run, kept}
+use Rattle.sedna_digits.proofs.Kept.{kept-exact}
+use Rattle.sedna_digits.proofs.Numbers.{number-below}
+use Rattle.sedna_digits.proofs.TwoDigits.{digit-byte, digit-text}
 
 pub run-digits : (s : List ℕ) → AreDigits (run s)
 unfolding run
@@ -57,3 +60,12 @@ run-text [] rest h e = none rest e
 run-text (d ∷ ds) rest h e =
     let c : 48 + d - 48 ≡ d = omega arith in
     rw (digit-text d (h .0), c) (ap (λ (l : List ℕ). d ∷ l) (run-text ds rest (h .1) e))
+
+-- up to eighteen digits are kept whole
+pub kept-digits : (ds : List ℕ) → AreDigits ds → length ds ≤ 18 → kept (number ds) ≡ number ds
+kept-digits ds h few =
+    let most : 10 ^ length ds ≤ 10 ^ 18 = pow-le-pow-right (omega arith) few in
+    kept-exact (number ds) (omega (arith, number-below ds h))
+
+pub run-below : (s : List ℕ) → length (run s) ≤ 18 → kept (number (run s)) < 10 ^ length (run s)
+run-below s few = rw (kept-digits (run s) (run-digits s) few) (number-below (run s) (run-digits s))

@@ -10,7 +10,8 @@ use lib.Seq.{drop-cons}
 use borrow.Author.Tests.{le-leb, lt-leb}
 use Rattle.sedna_digits.specs.declared.Run.{Run}
 use Rattle.sedna_digits.specs.Numbers.{number}
-use Rattle.sedna_digits.specs.Digits.{run, kept, grown, digitsAt}
+use Rattle.sedna_digits.specs.Digits.{run, kept, digitsAt}
+use Rattle.sedna_digits.specs.inner.Growing.{grown}
 use Rattle.sedna_digits.proofs.Kept.{grown-kept}
 
 module _ (s : List ℕ) (i : ℕ) where

@@ -20,20 +20,13 @@ run (b ∷ s) = if (isDigit b) ((b - 48) ∷ run s) []
 unfoldable pub kept : ℕ → ℕ
 kept n = if (leb n 9223372036854775808) n (9223372036854776000 + n % 400)
 
--- of a number with one more digit behind it, by what was kept
-unfoldable pub grown : ℕ → ℕ → ℕ
-grown n d =
-    if (leb n 922337203685477580)
-    (if (leb (n * 10 + d) 9223372036854775808) (n * 10 + d) (9223372036854776000 + (n % 400 * 10 + d) % 400))
-    (9223372036854776000 + (n % 400 * 10 + d) % 400)
-
 -- the digits from `at` on
 abbrev pub digitsAt : List ℕ → ℕ → Run
 digitsAt s at = record { end = at + length (run (drop at s)); number = kept (number (run (drop at s))) }
 
 -- the number of the two digits at `at`, 100 where one is none
-unfoldable pub twoAt : List ℕ → ℕ → ℕ
-twoAt s at = if (isDigit (getD s at 0)) (if (isDigit (getD s (at + 1) 0)) ((getD s at 0 - 48) * 10 + (getD s (at + 1) 0 - 48)) 100) 100
+unfoldable pub twoDigitsAt : List ℕ → ℕ → ℕ
+twoDigitsAt s at = if (isDigit (getD s at 0)) (if (isDigit (getD s (at + 1) 0)) ((getD s at 0 - 48) * 10 + (getD s (at + 1) 0 - 48)) 100) 100
 
 -- behind the sign at `at`, + or -, if one stands there
 unfoldable pub behindSign : List ℕ → ℕ → ℕ

@@ -3,7 +3,8 @@
 ghost use mathlib.Core.Path.{_≡_};
 ghost use Prim.Native.Nat.{_-_, _≤_, _^_, min};
 ghost use lib.ListN.{getD};
-ghost use Rattle.sedna_digits.specs.Digits.{isDigit, grown, digitsAt, twoAt, behindSign};
+ghost use Rattle.sedna_digits.specs.Digits.{isDigit, digitsAt, twoDigitsAt, behindSign};
+ghost use Rattle.sedna_digits.specs.inner.Growing.{grown};
 
 // The byte at `at`, 0 behind the end.
 pub fn byte_at(s: &[u8], at: usize) -> u8
@@ -76,8 +77,8 @@ pub fn digits(s: &[u8], at: usize) -> Run
 }
 
 // The number of the two digits at `at`, 100 where one of the two bytes is none.
-pub fn two(s: &[u8], at: usize) -> u64
-    ensures { λ r. ⌜ r ≡ twoAt (now (s .entry)) at ⌝ }
+pub fn two_digits(s: &[u8], at: usize) -> u64
+    ensures { λ r. ⌜ r ≡ twoDigitsAt (now (s .entry)) at ⌝ }
 {
     let n = s.len();
     if n < 2 {

@@ -2,22 +2,13 @@
 use mathlib.Core.List.{List}
 use mathlib.Core.Path.{_≡_, ap}
 use Prim.Native.Nat.{ℕ, _+_, _-_, _*_, _^_, _≤_, _<_}
-use native.Mathlib.Nat.{one-le-pow, pow-le-pow-right, mul-lt-mul-of-pos-right}
+use native.Mathlib.Nat.{one-le-pow, mul-lt-mul-of-pos-right}
 use native.Mathlib.Omega.{arith}
 use lib.ListN.{length, drop}
 use lib.Pow.{pow-add}
 use Rattle.sedna_digits.specs.declared.Run.{Run}
-use Rattle.sedna_digits.specs.Digits.{run, kept, digitsAt}
-use Rattle.sedna_digits.specs.Numbers.{number, AreDigits}
-use Rattle.sedna_digits.proofs.Kept.{kept-exact}
-use Rattle.sedna_digits.proofs.Runs.{run-digits}
-use Rattle.sedna_digits.proofs.Numbers.{number-below}
-
-pub kept-whole : (ds : List ℕ) → AreDigits ds → length ds ≤ 9 → kept (number ds) < 10 ^ length ds
-kept-whole ds d h =
-    let below = number-below ds d in
-    let most : 10 ^ length ds ≤ 10 ^ 9 = pow-le-pow-right (omega arith) h in
-    rw (kept-exact (number ds) (omega arith)) below
+use Rattle.sedna_digits.specs.Digits.{run, digitsAt}
+use Rattle.sedna_digits.proofs.Runs.{run-below}
 
 pub filled-up : (n k : ℕ) → k ≤ 9 → n < 10 ^ k → n * 10 ^ (9 - k) < 1000000000
 filled-up n k h l =
@@ -29,4 +20,4 @@ filled-up n k h l =
 pub run-filled : (s : List ℕ) (at : ℕ) (r : Run) → r ≡ digitsAt s at → r .end - at ≤ 9 → r .number < 10 ^ (r .end - at)
 run-filled s at r e h =
     let n : r .end - at ≡ length (run (drop at s)) = omega (arith, ap (λ (x : Run). x .end) e) in
-    rw (n, ap (λ (x : Run). x .number) e) (kept-whole (run (drop at s)) (run-digits (drop at s)) (omega arith))
+    rw (n, ap (λ (x : Run). x .number) e) (run-below (drop at s) (omega arith))

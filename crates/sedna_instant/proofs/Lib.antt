@@ -1,7 +1,5 @@
 pub mod Comparing
-pub mod Forms
 pub mod Fractions
-pub mod Months
+pub mod Days
 pub mod Readings
 pub mod Seconds
-pub mod Years

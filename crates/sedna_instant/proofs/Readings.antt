@@ -7,10 +7,10 @@ use lib.ListN.{length}
 use borrow.Author.Tests.{lt-ltb, le-ltb}
 use Rattle.wire.specs.declared.Refusal.the-variants.{NotOfForm}
 use Rattle.sedna_instant.specs.declared.Dated.the-variants.{Refused}
-use Rattle.sedna_instant.specs.declared.read.Clock.{Clock}
-use Rattle.sedna_instant.specs.declared.read.Fraction.{Fraction}
-use Rattle.sedna_instant.specs.declared.read.Year.{Year}
-use Rattle.sedna_instant.specs.declared.read.ZoneFound.{ZoneFound}
+use Rattle.sedna_instant.specs.declared.fields.Clock.{Clock}
+use Rattle.sedna_instant.specs.declared.fields.Fraction.{Fraction}
+use Rattle.sedna_instant.specs.declared.fields.Year.{Year}
+use Rattle.sedna_instant.specs.declared.fields.ZoneFound.{ZoneFound}
 use Rattle.sedna_instant.specs.DateTimes.{yearOf, marksAt, clockAt, fractionAt, isFormed, zoneAt, zonedOf, instantBy, instantFrom, instantOf}
 
 module _ (s : List ℕ) (y : Year) (year : y ≡ yearOf s) where

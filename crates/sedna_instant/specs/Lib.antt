@@ -1,3 +1,4 @@
 pub mod Calendar
 pub mod DateTimes
 pub mod Orders
+pub mod inner

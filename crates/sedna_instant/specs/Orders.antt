@@ -4,9 +4,8 @@ use lib.Signed.{ltZ}
 use Rattle.wire.specs.Bytes.{if}
 use Rattle.sedna_instant.specs.declared.Instant.{Instant}
 use Rattle.sedna_instant.specs.declared.Order.{Order}
-use Rattle.sedna_instant.specs.declared.Order.the-variants.{Earlier, Same, Later}
 
 unfoldable pub ordered : Instant → Instant → Order
 ordered a b =
-    if (ltZ (a .seconds) (b .seconds)) Earlier
-    (if (ltZ (b .seconds) (a .seconds)) Later (if (ltb (a .nanos) (b .nanos)) Earlier (if (ltb (b .nanos) (a .nanos)) Later Same)))
+    if (ltZ (a .seconds) (b .seconds)) Order.Earlier
+    (if (ltZ (b .seconds) (a .seconds)) Order.Later (if (ltb (a .nanos) (b .nanos)) Order.Earlier (if (ltb (b .nanos) (a .nanos)) Order.Later Order.Same)))

@@ -1,7 +1,8 @@
 // The calendar: leap years, the lengths of months, and the day a date is.
 ghost use mathlib.Core.Path.{_≡_};
-ghost use Prim.Native.Nat.{_-_, _≤_};
+ghost use Prim.Native.Nat.{_-_};
 ghost use Rattle.sedna_instant.specs.Calendar.{leap, monthLength, monthsTo, daysBefore};
+ghost use Rattle.sedna_instant.specs.inner.Bounds.{IsMonth, InCalendar};
 
 // A year counts as written: any number is one, 0 too.
 fn leap_year(year: u64) -> bool
@@ -38,7 +39,7 @@ pub fn month_length(year: u64, month: u64) -> u64
 
 // How many days of a year that is no leap year, as 1 is none, lie before the month.
 fn days_ahead(month: u64) -> u64
-    requires { ⌜ (1 ≤ month) × (month ≤ 12) ⌝ }
+    requires { ⌜ IsMonth month ⌝ }
     ensures { λ r. ⌜ r ≡ monthsTo 1 (month - 1) ⌝ }
 {
     match month {
@@ -59,7 +60,7 @@ fn days_ahead(month: u64) -> u64
 
 // How many days of the year lie before the month.
 fn months_before(year: u64, month: u64) -> u64
-    requires { ⌜ (1 ≤ month) × (month ≤ 12) ⌝ }
+    requires { ⌜ IsMonth month ⌝ }
     ensures { λ r. ⌜ r ≡ monthsTo year (month - 1) ⌝ }
 {
     let days = days_ahead(month);
@@ -74,7 +75,7 @@ fn months_before(year: u64, month: u64) -> u64
 
 // How many days lie between 0001-01-01 and the date.
 pub fn day_count(year: u64, month: u64, day: u64) -> u64
-    requires { ⌜ (1 ≤ year) × (year ≤ 9999) × (1 ≤ month) × (month ≤ 12) × (1 ≤ day) × (day ≤ 31) ⌝ }
+    requires { ⌜ InCalendar year month day ⌝ }
     ensures { λ r. ⌜ r ≡ daysBefore year month day ⌝ }
 {
     let past = year - 1;

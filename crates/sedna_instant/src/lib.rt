@@ -6,6 +6,7 @@ ghost use Rattle.sedna_instant.specs.Orders.{ordered};
 use wire::Refusal;
 
 mod calendar;
+mod fields;
 pub mod read;
 
 // Seconds from 1970-01-01T00:00:00Z, and nanoseconds on top, before 1970 too.

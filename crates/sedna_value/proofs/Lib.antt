@@ -1,8 +1,6 @@
 pub mod ByType
 pub mod Signs
 pub mod WholeRuns
-pub mod Specials
 pub mod Exponents
 pub mod Decimals
-pub mod Quotients
 pub mod Answers

@@ -6,9 +6,8 @@ use lib.Dec.{eqb}
 use lib.ListN.{length, getD}
 use Rattle.wire.specs.Bytes.{if}
 use Rattle.wire.specs.declared.Refusal.the-variants.{NotOfForm}
-use Rattle.sedna_value.specs.declared.Value.the-variants.{Truth}
+use Rattle.sedna_value.specs.declared.Value.the-variants.{Boolean}
 use Rattle.sedna_value.specs.declared.Valued.{Valued}
-use Rattle.sedna_value.specs.declared.Valued.the-variants as valued
 
 -- true
 abbrev pub trueAt : List ℕ → Bool
@@ -20,16 +19,16 @@ falseAt s =
     if (eqb (getD s 0 0) 102)
     (if (eqb (getD s 1 0) 97) (if (eqb (getD s 2 0) 108) (if (eqb (getD s 3 0) 115) (eqb (getD s 4 0) 101) false) false) false) false
 
-abbrev pub truth : Bool → Valued
-truth b = valued.Is (Truth b)
+abbrev pub ofBool : Bool → Valued
+ofBool b = Valued.Is (Boolean b)
 
-abbrev pub truthOf : ℕ → Valued
-truthOf b = if (eqb b 49) (truth true) (if (eqb b 48) (truth false) (valued.Refused NotOfForm))
+abbrev pub booleanDigit : ℕ → Valued
+booleanDigit b = if (eqb b 49) (ofBool true) (if (eqb b 48) (ofBool false) (Valued.Refused NotOfForm))
 
 -- true, false, 1 and 0
 unfoldable pub booleanOf : List ℕ → Valued
 booleanOf s =
     if (eqb (length s) 1)
-    (truthOf (getD s 0 0))
-    (if (eqb (length s) 4) (if (trueAt s) (truth true) (valued.Refused NotOfForm))
-    (if (eqb (length s) 5) (if (falseAt s) (truth false) (valued.Refused NotOfForm)) (valued.Refused NotOfForm)))
+    (booleanDigit (getD s 0 0))
+    (if (eqb (length s) 4) (if (trueAt s) (ofBool true) (Valued.Refused NotOfForm))
+    (if (eqb (length s) 5) (if (falseAt s) (ofBool false) (Valued.Refused NotOfForm)) (Valued.Refused NotOfForm)))

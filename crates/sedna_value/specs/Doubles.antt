@@ -1,7 +1,7 @@
 -- Doubles as they are read.
 use mathlib.Core.Bool.{Bool, true, false}
 use mathlib.Core.List.{List}
-use Prim.Native.Nat.{ℕ, _+_, _-_, _*_, _^_, _≤_, _<_}
+use Prim.Native.Nat.{ℕ, _+_, _-_, _*_, _^_}
 use lib.Dec.{eqb, ltb}
 use lib.Ieee.{Float, binary64, ofInt, div, neg}
 use lib.IntN.{pos}
@@ -10,7 +10,6 @@ use Rattle.wire.specs.Bytes.{if}
 use Rattle.wire.specs.declared.Refusal.the-variants.{NotOfForm, OutOfRange}
 use Rattle.sedna_value.specs.declared.Value.the-variants.{Double}
 use Rattle.sedna_value.specs.declared.Valued.{Valued}
-use Rattle.sedna_value.specs.declared.Valued.the-variants as valued
 use Rattle.sedna_digits.specs.declared.Run.{Run}
 use Rattle.sedna_value.specs.declared.doubles.Decimal.{Decimal}
 use Rattle.sedna_digits.specs.Digits.{digitsAt, behindSign}
@@ -25,13 +24,7 @@ negated true x = neg x
 negated false x = x
 
 abbrev decimalBy : ℕ → ℕ → Run → Run → Decimal
-decimalBy at point w f = record {
-  before = point - at;
-  behind = f .end - (point + 1);
-  whole = w .number;
-  fraction = f .number;
-  end = f .end;
-}
+decimalBy at point w f = record { before = point - at; behind = f .end - (point + 1); whole = w .number; fraction = f .number; end = f .end }
 
 abbrev decimalFrom : List ℕ → ℕ → Run → Decimal
 decimalFrom s at w =
@@ -41,10 +34,6 @@ decimalFrom s at w =
 -- digits with a point among or beside them, or with none
 unfoldable pub decimalAt : List ℕ → ℕ → Decimal
 decimalAt s at = decimalFrom s at (digitsAt s at)
-
--- the numbers have no more digits than were counted
-abbrev pub Counted : Decimal → Type 0
-Counted d = d .before + d .behind ≤ 15 → (d .whole < 10 ^ d .before) × (d .fraction < 10 ^ d .behind)
 
 abbrev pub quotient : Decimal → Float
 quotient d = divided (d .whole * 10 ^ d .behind + d .fraction) (10 ^ d .behind)
@@ -61,7 +50,7 @@ infAt s at = if (eqb (getD s at 0) 73) (if (eqb (getD s (at + 1) 0) 78) (eqb (ge
 unfoldable pub specialOf : List ℕ → Valued
 specialOf s =
     if (if (eqb (length s) 3) (if (infAt s 0) true (nanAt s)) (if (eqb (length s) 4) (if (eqb (getD s 0 0) 45) (infAt s 1) false) false))
-    (valued.Refused OutOfRange) (valued.Refused NotOfForm)
+    (Valued.Refused OutOfRange) (Valued.Refused NotOfForm)
 
 abbrev exponentBy : List ℕ → ℕ → Run → Bool
 exponentBy s start r = if (eqb (r .end) start) false (eqb (r .end) (length s))
@@ -74,12 +63,12 @@ unfoldable pub exponentAt : List ℕ → ℕ → Bool
 exponentAt s at = if (isE (getD s at 0)) (exponentBy s (behindSign s (at + 1)) (digitsAt s (behindSign s (at + 1)))) false
 
 abbrev pub decidedOf : Bool → Decimal → Valued
-decidedOf minus d = if (ltb 15 (d .before + d .behind)) (valued.Refused OutOfRange) (valued.Is (Double (negated minus (quotient d))))
+decidedOf minus d = if (ltb 15 (d .before + d .behind)) (Valued.Refused OutOfRange) (Valued.Is (Double (negated minus (quotient d))))
 
 abbrev doubleBy : List ℕ → Decimal → Valued
 doubleBy s d =
     if (eqb (d .before + d .behind) 0) (specialOf s)
-    (if (ltb (d .end) (length s)) (if (exponentAt s (d .end)) (valued.Refused OutOfRange) (valued.Refused NotOfForm)) (decidedOf (eqb (getD s 0 0) 45) d))
+    (if (ltb (d .end) (length s)) (if (exponentAt s (d .end)) (Valued.Refused OutOfRange) (Valued.Refused NotOfForm)) (decidedOf (eqb (getD s 0 0) 45) d))
 
 unfoldable pub doubleOf : List ℕ → Valued
 doubleOf s = doubleBy s (decimalAt s (behindSign s 0))

@@ -7,17 +7,15 @@ use Rattle.wire.specs.Bytes.{if, between}
 use Rattle.wire.specs.declared.Refusal.the-variants.{NotOfForm}
 use Rattle.sedna_value.specs.declared.Value.the-variants.{At}
 use Rattle.sedna_instant.specs.declared.Dated.{Dated}
-use Rattle.sedna_instant.specs.declared.Dated.the-variants as dated
 use Rattle.sedna_value.specs.declared.Valued.{Valued}
-use Rattle.sedna_value.specs.declared.Valued.the-variants as valued
 use Rattle.sedna_instant.specs.DateTimes.{instantOf}
 use Rattle.sedna_value.specs.Booleans.{booleanOf}
 use Rattle.sedna_value.specs.Doubles.{doubleOf}
 use Rattle.sedna_value.specs.Wholes.{wholeOf}
 
 abbrev pub fromDated : Dated → Valued
-fromDated (dated.At i) = valued.Is (At i)
-fromDated (dated.Refused r) = valued.Refused r
+fromDated (Dated.At i) = Valued.Is (At i)
+fromDated (Dated.Refused r) = Valued.Refused r
 
 -- a type of whole numbers
 abbrev pub isWhole : ℕ → Bool
@@ -26,8 +24,8 @@ isWhole type = if (eqb type 24) true (between 50 61 type)
 abbrev pub byType : ℕ → List ℕ → Valued
 byType type s =
     if (eqb type 10) (fromDated (instantOf s))
-    (if (eqb type 22) (doubleOf s) (if (eqb type 25) (booleanOf s) (if (isWhole type) (wholeOf type s) (valued.Refused NotOfForm))))
+    (if (eqb type 22) (doubleOf s) (if (eqb type 25) (booleanOf s) (if (isWhole type) (wholeOf type s) (Valued.Refused NotOfForm))))
 
 -- "15 for another class, a type not named here"
 unfoldable pub valueOf : ℕ → ℕ → List ℕ → Valued
-valueOf class type s = if (eqb class 1) (byType type s) (valued.Refused NotOfForm)
+valueOf class type s = if (eqb class 1) (byType type s) (Valued.Refused NotOfForm)

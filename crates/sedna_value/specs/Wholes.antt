@@ -10,10 +10,8 @@ use Rattle.wire.specs.Bytes.{if, between}
 use Rattle.wire.specs.declared.Refusal.the-variants.{NotOfForm, OutOfRange}
 use Rattle.sedna_value.specs.declared.Value.the-variants.{Whole}
 use Rattle.sedna_value.specs.declared.Valued.{Valued}
-use Rattle.sedna_value.specs.declared.Valued.the-variants as valued
 use Rattle.sedna_digits.specs.declared.Run.{Run}
 use Rattle.sedna_value.specs.declared.wholes.Signed.{Signed}
-use Rattle.sedna_value.specs.declared.wholes.Signed.the-variants as signed
 use Rattle.sedna_digits.specs.Digits.{digitsAt, behindSign}
 use Rattle.sedna_digits.specs.Numbers as numbers
 
@@ -36,19 +34,19 @@ greatestOf type =
 -- in 64 bits with a sign: up to 2^63 - 1 either way, and -2^63
 unfoldable pub signedOf : Bool → ℕ → Signed
 signedOf minus n =
-    if (leb n 9223372036854775807) (signed.Is (numbers.signed minus n))
-    (if (eqb n 9223372036854775808) (if minus (signed.Is (negsuc 9223372036854775807)) signed.Beyond) signed.Beyond)
+    if (leb n 9223372036854775807) (Signed.Is (numbers.signed minus n))
+    (if (eqb n 9223372036854775808) (if minus (Signed.Is (negsuc 9223372036854775807)) Signed.Overflow) Signed.Overflow)
 
 abbrev pub rangedOf : ℕ → Signed → Valued
-rangedOf type (signed.Is i) =
-    if (ltZ i (leastOf type)) (valued.Refused OutOfRange) (if (ltZ (greatestOf type) i) (valued.Refused OutOfRange) (valued.Is (Whole i)))
-rangedOf type signed.Beyond = valued.Refused OutOfRange
+rangedOf type (Signed.Is i) =
+    if (ltZ i (leastOf type)) (Valued.Refused OutOfRange) (if (ltZ (greatestOf type) i) (Valued.Refused OutOfRange) (Valued.Is (Whole i)))
+rangedOf type Signed.Overflow = Valued.Refused OutOfRange
 
 -- the digits from `at` on are all that is there, and there is one
 abbrev pub wholeBy : ℕ → List ℕ → ℕ → Run → Valued
 wholeBy type s at r =
-    if (eqb (r .end) at) (valued.Refused NotOfForm)
-    (if (ltb (r .end) (length s)) (valued.Refused NotOfForm) (rangedOf type (signedOf (eqb (getD s 0 0) 45) (r .number))))
+    if (eqb (r .end) at) (Valued.Refused NotOfForm)
+    (if (ltb (r .end) (length s)) (Valued.Refused NotOfForm) (rangedOf type (signedOf (eqb (getD s 0 0) 45) (r .number))))
 
 unfoldable pub wholeOf : ℕ → List ℕ → Valued
 wholeOf type s = wholeBy type s (behindSign s 0) (digitsAt s (behindSign s 0))

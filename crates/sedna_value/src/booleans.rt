@@ -1,6 +1,6 @@
 // Booleans: type 25.
 ghost use mathlib.Core.Path.{_≡_};
-ghost use Rattle.sedna_value.specs.Booleans.{trueAt, falseAt, truthOf, booleanOf};
+ghost use Rattle.sedna_value.specs.Booleans.{trueAt, falseAt, booleanDigit, booleanOf};
 use crate::Value;
 use crate::Valued;
 use sedna_digits::byte_at;
@@ -39,14 +39,14 @@ fn is_false(s: &[u8]) -> bool
     byte_at(s, 4) == b'e'
 }
 
-fn of_one(b: u8) -> Valued
-    ensures { λ r. ⌜ r ≡ truthOf b ⌝ }
+fn of_digit(b: u8) -> Valued
+    ensures { λ r. ⌜ r ≡ booleanDigit b ⌝ }
 {
     if b == b'1' {
-        return Valued::Is(Value::Truth(true));
+        return Valued::Is(Value::Boolean(true));
     }
     if b == b'0' {
-        return Valued::Is(Value::Truth(false));
+        return Valued::Is(Value::Boolean(false));
     }
     Valued::Refused(Refusal::NotOfForm)
 }
@@ -57,16 +57,16 @@ pub fn boolean(s: &[u8]) -> Valued
 {
     let n = s.len();
     if n == 1 {
-        return of_one(s[0]);
+        return of_digit(s[0]);
     }
     if n == 4 {
         if is_true(s) {
-            return Valued::Is(Value::Truth(true));
+            return Valued::Is(Value::Boolean(true));
         }
     }
     if n == 5 {
         if is_false(s) {
-            return Valued::Is(Value::Truth(false));
+            return Valued::Is(Value::Boolean(false));
         }
     }
     Valued::Refused(Refusal::NotOfForm)

@@ -1,8 +1,9 @@
 // Doubles: type 22.
 ghost use mathlib.Core.Path.{_≡_};
-ghost use Prim.Native.Nat.{_+_, _<_, _≤_};
+ghost use Prim.Native.Nat.{_<_, _≤_};
 ghost use lib.ListN.{length};
-ghost use Rattle.sedna_value.specs.Doubles.{decimalAt, Counted, quotient, specialOf, exponentAt, decidedOf, doubleOf, nanAt, infAt};
+ghost use Rattle.sedna_value.specs.Doubles.{decimalAt, quotient, specialOf, exponentAt, decidedOf, doubleOf, nanAt, infAt};
+ghost use Rattle.sedna_value.specs.inner.Decimals.{FewDigits, DecimalFits};
 use crate::Value;
 use crate::Valued;
 use sedna_digits::behind_sign;
@@ -22,7 +23,7 @@ pub struct Decimal {
 }
 
 fn decimal_at(s: &[u8], at: usize) -> Decimal
-    ensures { λ r. ⌜ (r ≡ decimalAt (now (s .entry)) at) × Counted r ⌝ }
+    ensures { λ r. ⌜ r ≡ decimalAt (now (s .entry)) at ⌝ }
 {
     let run = digits(s, at);
     let point = run.end;
@@ -49,7 +50,7 @@ fn decimal_at(s: &[u8], at: usize) -> Decimal
 
 // The one rounded division of the digits by the power of ten, each a double exactly.
 fn quotient_of(d: Decimal) -> f64
-    requires { ⌜ (d .before + d .behind ≤ 15) × Counted d ⌝ }
+    requires { ⌜ FewDigits d ⌝ }
     ensures { λ r. ⌜ r ≡ quotient d ⌝ }
 {
     let scale = power(d.behind);
@@ -127,7 +128,7 @@ fn exponent(s: &[u8], at: usize) -> bool
 
 // What a double is that has digits and no exponent: 16 for more than fifteen.
 fn decided(minus: bool, d: Decimal) -> Valued
-    requires { ⌜ Counted d ⌝ }
+    requires { ⌜ DecimalFits d ⌝ }
     ensures { λ r. ⌜ r ≡ decidedOf minus d ⌝ }
 {
     if 15 < d.before {

@@ -5,7 +5,6 @@ ghost use mathlib.Core.Path.{_≡_};
 ghost use Rattle.sedna_value.specs.Values.{fromDated, valueOf};
 use sedna_instant::Dated;
 use sedna_instant::Instant;
-use sedna_instant::read::instant;
 use wire::Refusal;
 
 mod booleans;
@@ -15,7 +14,7 @@ mod wholes;
 pub enum Value {
     Whole(i64),
     At(Instant),
-    Truth(bool),
+    Boolean(bool),
     Double(f64),
 }
 
@@ -42,7 +41,7 @@ pub fn value_of(class: u8, kind: u8, text: &[u8]) -> Valued
         return Valued::Refused(Refusal::NotOfForm);
     }
     match kind {
-        10 => from_dated(instant(text)),
+        10 => from_dated(sedna_instant::read::instant(text)),
         22 => doubles::double(text),
         25 => booleans::boolean(text),
         24 | 50..=61 => wholes::whole(kind, text),

@@ -42,7 +42,7 @@ fn greatest(kind: u8) -> i64
 // A number of 64 bits with a sign, or one beyond them.
 pub enum Signed {
     Is(i64),
-    Beyond,
+    Overflow,
 }
 
 // The least is made without its magnitude, which does not fit.
@@ -61,7 +61,7 @@ fn with_sign(minus: bool, n: u64) -> Signed
             return Signed::Is(-9223372036854775808);
         }
     }
-    Signed::Beyond
+    Signed::Overflow
 }
 
 // 16 where the number is out of its type's range.
@@ -78,7 +78,7 @@ fn ranged(kind: u8, n: Signed) -> Valued
             }
             Valued::Is(Value::Whole(i))
         }
-        Signed::Beyond => Valued::Refused(Refusal::OutOfRange),
+        Signed::Overflow => Valued::Refused(Refusal::OutOfRange),
     }
 }
 

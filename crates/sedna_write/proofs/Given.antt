@@ -5,18 +5,21 @@ use mathlib.Core.Bool.{Bool, true, false}
 use Prim.Native.Nat.{ℕ, _+_, _*_, _-_, _≤_, _<_, min}
 use native.Mathlib.Numerals.{add-one}
 use native.Mathlib.Omega.{arith}
-use lib.Dec.{eqb, ltb}
+use lib.Dec.{eqb}
 use lib.ListN.{length, take, drop, getD, length-append, length-drop, drop-of-length-le}
 use lib.Seq.{drop-cons, drop-drop, length-take-le}
-use borrow.Author.Tests.{eq-eqb, ne-eqb, eqb-true, eqb-false, ltb-true, ltb-false}
-use Rattle.wire.specs.Bytes.{if, int, over, placed}
-use Rattle.wire.proofs.Over.{Ahead, step, over-none}
+use borrow.Author.Tests.{eq-eqb, ne-eqb, eqb-true, eqb-false}
+use Rattle.wire.specs.Bytes.{if, int, splice}
+use Rattle.wire.specs.Call.{putAt}
+use Rattle.wire.specs.declared.Counted.{Counted}
+use Rattle.wire.specs.declared.Counted.the-variants.{Count}
+use Rattle.wire.proofs.Splices.{Ahead, step, splice-none}
 use Rattle.sedna.specs.declared.Shape.the-variants as shape
 use Rattle.sedna.specs.Encode.{pairBytes, pairsBytes, string}
 use Rattle.sedna.specs.Message.{Pair}
 use Rattle.sedna_write.specs.Pairs.{sum, given, pairsOf}
-use Rattle.sedna_write.specs.Writing.{judgement}
-use Rattle.sedna_write.proofs.Puts.{int-length, string-length, judgement-long, judgement-false}
+use Rattle.sedna_write.specs.inner.Begin.{Begins, PairsFit}
+use Rattle.sedna_write.proofs.Puts.{int-length, string-length, counted, begun}
 
 eqb-comm : (a b : ℕ) → eqb a b ≡ eqb b a
 eqb-comm a b = by (eqb b a) refl
@@ -98,7 +101,7 @@ module _ (ids lengths values : List ℕ) (k from : ℕ) (h : k < length ids) (g 
   rest-bytes = pairsBytes (pairsOf (drop (k + 1) ids) (drop (k + 1) lengths) (drop (from + getD lengths k 0) values))
 
   pub ahead-next : {t d e : List ℕ} {at : ℕ} → Ahead t d at (pairsBytes (pairsOf (drop k ids) (drop k lengths) (drop from values)))
-      → e ≡ placed d at (pairBytes (record { id = getD ids k 0; value = take (from + getD lengths k 0 - from) (drop from values) }))
+      → e ≡ putAt d at (pairBytes (record { id = getD ids k 0; value = take (from + getD lengths k 0 - from) (drop from values) }))
       → Ahead t e (at + 9 + (from + getD lengths k 0 - from)) rest-bytes
   unfolding pairsBytes
   ahead-next {t} {d} {e} {at} a p =
@@ -107,7 +110,7 @@ module _ (ids lengths values : List ℕ) (k from : ℕ) (h : k < length ids) (g 
       let q : Pair = record { id = getD ids k 0; value = take n (drop from values) } in
       let s : pairsBytes (pairsOf (drop k ids) (drop k lengths) (drop from values)) ≡ pairBytes q ++ rest-bytes = rw (pairs-next ids lengths values k from h g) in
       let b : Ahead t d at (pairBytes q ++ rest-bytes) = rw s at a in
-      let w : e ≡ placed d at (pairBytes q) = rw c at p in
+      let w : e ≡ putAt d at (pairBytes q) = rw c at p in
       let dl : length (drop from values) ≡ length values - from = length-drop from values in
       let l : length (take n (drop from values)) ≡ n = length-take-le n (drop from values) (omega arith) in
       let m : length (pairBytes q) ≡ length (take n (drop from values)) + 9 = pair-length q in
@@ -130,26 +133,22 @@ pub ahead-end : {t d : List ℕ} {at : ℕ} (ids lengths values : List ℕ) (k :
 unfolding pairsBytes
 ahead-end {t} {d} {at} ids lengths values k h a =
     let e : pairsBytes (pairsOf (drop k ids) (drop k lengths) values) ≡ [] = ap pairsBytes (pairs-end ids lengths values k h) in
-    sym (over-none d at) ∙ ap (over d at) (sym e) ∙ a .makes
+    sym (splice-none d at) ∙ ap (splice d at) (sym e) ∙ a .makes
 
--- the writer's bound on the body's length serves as the length
-module _ (ids lengths values : List ℕ) (a b : ℕ) (ha : a ≡ min 10241 (length ids + 0)) (hb : b ≡ min 10241 (length values + 0)) where
-  pub options-counted : given ids lengths values ≡ true → a * 9 + b ≤ 10240 → length (pairsBytes (pairsOf ids lengths values)) ≡ a * 9 + b
-  options-counted g h =
-      let s : (length ids ≡ length lengths) × (sum lengths ≡ length values) = given-split ids lengths values g in
+-- the head of options: the writer's bound on the body's length serves as the length
+module _ (ids lengths values : List ℕ) where
+  pub options-head : {d e : List ℕ} {i a b : ℕ} {ok : Bool} {w : Counted} → ok ≡ given ids lengths values → a ≡ min 10241 (length ids + 0) → b ≡ min 10241 (length values + 0)
+      → Begins d i shape.Options ok (a * 9 + b) w e → Begins d i shape.Options (given ids lengths values) (length (pairsBytes (pairsOf ids lengths values))) w e
+  options-head {ok = ok} o ha hb h =
+      begun h _ _ o λ (t : ok ≡ true).
+      let s = given-split ids lengths values (sym o ∙ t) in
       omega (arith, pairs-counted ids lengths values (s .0) (s .1))
 
-  pub options-judged : (i room : ℕ) → judgement i shape.Options (given ids lengths values) (a * 9 + b) room ≡ judgement i shape.Options (given ids lengths values) (length (pairsBytes (pairsOf ids lengths values))) room
-  options-judged i room = byGiven (given ids lengths values) refl
-    where
-      byLength : given ids lengths values ≡ true → (t : Bool) → ltb 10240 (a * 9 + b) ≡ t → judgement i shape.Options true (a * 9 + b) room ≡ judgement i shape.Options true (length (pairsBytes (pairsOf ids lengths values))) room
-      byLength g true e =
-          let h : 10240 < a * 9 + b = ltb-true _ _ e in
-          let s : (length ids ≡ length lengths) × (sum lengths ≡ length values) = given-split ids lengths values g in
-          let n : length (pairsBytes (pairsOf ids lengths values)) ≡ length ids * 9 + length values = pairs-counted ids lengths values (s .0) (s .1) in
-          judgement-long i shape.Options true (a * 9 + b) (length (pairsBytes (pairsOf ids lengths values))) room h (omega arith)
-      byLength g false e = rw (options-counted g (ltb-false _ _ e))
-
-      byGiven : (t : Bool) → given ids lengths values ≡ t → judgement i shape.Options t (a * 9 + b) room ≡ judgement i shape.Options t (length (pairsBytes (pairsOf ids lengths values))) room
-      byGiven true g = byLength g (ltb 10240 (a * 9 + b)) refl
-      byGiven false g = judgement-false i shape.Options (a * 9 + b) (length (pairsBytes (pairsOf ids lengths values))) room
+  -- what was counted can be written behind it
+  pub options-fit : {d e f : List ℕ} {i k : ℕ} {w : Counted} → Begins d i shape.Options (given ids lengths values) (length (pairsBytes (pairsOf ids lengths values))) w e
+      → w ≡ Count k → length f ≡ length d → PairsFit f ids lengths values
+  options-fit h q l =
+      let c = counted h q in
+      let s = given-split ids lengths values (c .allowed) in
+      let n = pairs-counted ids lengths values (s .0) (s .1) in
+      record { even = s .0; whole = s .1; short = omega arith; room = omega arith }

@@ -5,11 +5,12 @@ use Prim.Native.Nat.{ℕ, _+_}
 use lib.Dec.{eqb}
 use lib.ListN.{length, take, drop}
 use Rattle.wire.specs.Bytes.{if}
+use Rattle.wire.specs.Call.{Writes}
+use Rattle.wire.specs.declared.Counted.{Counted}
 use Rattle.sedna.specs.declared.Shape.the-variants.{Options}
-use Rattle.sedna.specs.Encode.{pairsBytes}
-use Rattle.sedna.specs.Message.{Pair, Body, message}
-use Rattle.sedna_write.specs.declared.Written.{Written}
-use Rattle.sedna_write.specs.Writing.{judgement, left}
+use Rattle.sedna.specs.Encode.{pairsBytes, encode}
+use Rattle.sedna.specs.Message.{Pair, Body, Message, message}
+use Rattle.sedna_write.specs.Writing.{judgement}
 
 unfoldable pub sum : List ℕ → ℕ
 sum [] = 0
@@ -24,11 +25,16 @@ pairsOf [] lengths values = []
 pairsOf (id ∷ ids) [] values = []
 pairsOf (id ∷ ids) (n ∷ lengths) values = record { id = id; value = take n values } ∷ pairsOf ids lengths (drop n values)
 
+-- the message with these options
+abbrev pub optionsMessage : ℕ → List ℕ → List ℕ → List ℕ → Message
+optionsMessage instruction ids lengths values = message instruction (Body.options (pairsOf ids lengths values))
+
 -- what writing the options of three lists answers, for an output of so many bytes: lists that do not belong together are a value that is not allowed
-abbrev pub optionsWritten : ℕ → ℕ → List ℕ → List ℕ → List ℕ → Written
+abbrev pub optionsWritten : ℕ → ℕ → List ℕ → List ℕ → List ℕ → Counted
 optionsWritten room instruction ids lengths values =
     judgement instruction Options (given ids lengths values) (length (pairsBytes (pairsOf ids lengths values))) room
 
--- the output then
-abbrev pub optionsLeft : List ℕ → ℕ → List ℕ → List ℕ → List ℕ → Written → List ℕ
-optionsLeft out instruction ids lengths values w = left out (message instruction (Body.options (pairsOf ids lengths values))) w
+-- the contract of a call that writes them in front of the output
+abbrev pub WritesOptions : List ℕ → ℕ → List ℕ → List ℕ → List ℕ → Counted → List ℕ → Type 0
+WritesOptions out instruction ids lengths values =
+    Writes (optionsWritten (length out) instruction ids lengths values) out 0 (encode (optionsMessage instruction ids lengths values))

@@ -9,17 +9,16 @@ use borrow.Rule.Slice.PartMut.{putMid, same-len-mid, take-put}
 use Rattle.sedna.specs.declared.Side.{Side}
 use Rattle.records.specs.declared.Head.{Head}
 use Rattle.records.specs.declared.Head.the-variants as head
-use Rattle.records.specs.Places.{Bounded}
+use Rattle.records.specs.Places.{Bounded, HeadRead, reach}
 use Rattle.records.specs.Record.{headOf}
-use Rattle.records.specs.Turn.{reach}
-use Rattle.transcript.specs.declared.Came.{Came}
-use Rattle.transcript.specs.declared.Came.the-variants as came
+use Rattle.transcript.specs.declared.Input.{Input}
+use Rattle.transcript.specs.declared.Input.the-variants as input
 use Rattle.transcript.specs.Program.{Within, OfRecord}
 
-pub within : (room : ℕ) {x : Came} {n : ℕ} → Within room x → x ≡ came.Bytes n → n ≤ room
+pub within : (room : ℕ) {x : Input} {n : ℕ} → Within room x → x ≡ input.Bytes n → n ≤ room
 within room w e = subst (Within room) e w
 
-pub of-record : (s : List ℕ) {x : Came} {n : ℕ} → OfRecord s x → x ≡ came.Bytes n → n ≤ length s
+pub of-record : (s : List ℕ) {x : Input} {n : ℕ} → OfRecord s x → x ≡ input.Bytes n → n ≤ length s
 of-record s w e = subst (OfRecord s) e w .0
 
 reach-six : (x : Head) → 6 ≤ reach x
@@ -40,12 +39,12 @@ module _ (d h : List ℕ) (n : ℕ) (room : 10254 ≤ length d) (six : length h 
   got-fits = omega (arith, headed-length, got-six)
 
   -- nothing is read behind a head that came short or is bad
-  pub head-read : OfRecord headed (came.Bytes n)
+  pub head-read : OfRecord headed (input.Bytes n)
   head-read = (got-fits, omega (arith, got-six, reach-six (headOf (take 6 headed))))
 
-  module _ {x : Head} {side : Side} {len : ℕ} (judged : (x ≡ headOf (take n headed)) × Bounded (length (take n headed)) x) (e : x ≡ head.Record side len) where
+  module _ {x : Head} {side : Side} {len : ℕ} (r : HeadRead (take n headed) x) (e : x ≡ head.Record side len) where
     bounded : Bounded (length (take n headed)) (head.Record side len)
-    bounded = subst (Bounded (length (take n headed))) e (judged .1)
+    bounded = subst (Bounded (length (take n headed))) e (r .bounded)
 
     pub end-fits : 6 + len ≤ length headed
     end-fits = omega (arith, bounded .1, headed-length)
@@ -54,10 +53,10 @@ module _ (d h : List ℕ) (n : ℕ) (room : 10254 ≤ length d) (six : length h 
     whole : headOf (take 6 headed) ≡ head.Record side len
     whole =
         let k : n ≡ 6 = omega (arith, bounded .0, got-six, length-take n headed) in
-        ap (λ (i : ℕ). headOf (take i headed)) (sym k) ∙ sym (judged .0) ∙ e
+        ap (λ (i : ℕ). headOf (take i headed)) (sym k) ∙ sym (r .answers) ∙ e
 
     -- and no more is read than the payload that it tells
-    pub payload-read : (p : List ℕ) (k : ℕ) → length p ≡ length (take (6 + len - 6) (drop 6 headed)) → k ≤ length p → OfRecord (putMid 6 (6 + len - 6) headed p) (came.Bytes (6 + k))
+    pub payload-read : (p : List ℕ) (k : ℕ) → length p ≡ length (take (6 + len - 6) (drop 6 headed)) → k ≤ length p → OfRecord (putMid 6 (6 + len - 6) headed p) (input.Bytes (6 + k))
     payload-read p k l m =
         let q = same-len-mid 6 (6 + len - 6) headed p l in
         let t = take-put 6 (6 + len - 6) headed p (omega (arith, end-fits)) in

@@ -8,20 +8,20 @@ ghost use Rattle.transcript.specs.Program.{Within, OfRecord, GoesOn};
 use libc::STDIN_FILENO;
 use libc::STDOUT_FILENO;
 use records::Head;
-use records::Put;
-use records::Turn;
+use records_printed::CountedLine;
+use records_printed::LONGEST_LINE;
 use session::Session;
+use wire::Counted;
 use wire::Place;
 
 // How many bytes were read, 0 at the input's end; or the first read failed.
-enum Came {
+enum Input {
     Bytes(usize),
     Failed,
 }
 
-// After a turn: the session to go on with; or the last line was printed; or a line could not be
-// written.
-enum Went {
+// Behind a line: the session to go on with; or it was the last one; or it could not be written.
+enum Progress {
     On(Session),
     Ended,
     Unwritten,
@@ -29,34 +29,34 @@ enum Went {
 
 // The first read tells a failure from the input's end. Where a later one fails, fewer bytes came
 // than were asked for, as where the input ends: the record is cut.
-fn read_head(head: &mut [u8]) -> Came
+fn read_head(head: &mut [u8]) -> Input
     ensures { λ r. ⌜ Within (length (now (head .entry))) r ⌝ }
 {
     let first = libc::read(STDIN_FILENO, head);
     if first < 0 {
-        return Came::Failed;
+        return Input::Failed;
     }
     let got = io::count(first, head);
     if got == 0 || got == head.len() {
-        return Came::Bytes(got);
+        return Input::Bytes(got);
     }
-    Came::Bytes(got + io::read_full(STDIN_FILENO, &mut head[got..]))
+    Input::Bytes(got + io::read_full(STDIN_FILENO, &mut head[got..]))
 }
 
 // Reads a record into the buffer, which has room for any: its head, then the payload that the head
 // tells.
-fn read_record(buffer: &mut [u8]) -> Came
+fn read_record(buffer: &mut [u8]) -> Input
     requires { ⌜ 10254 ≤ length (now buffer) ⌝ }
     ensures { λ r. ⌜ OfRecord (now (buffer .exit)) r ⌝ }
 {
-    let Came::Bytes(got) = read_head(&mut buffer[..6]) else {
-        return Came::Failed;
+    let Input::Bytes(got) = read_head(&mut buffer[..6]) else {
+        return Input::Failed;
     };
     match records::judge_head(&buffer[..got]) {
-        Head::Damaged => Came::Bytes(got),
+        Head::Damaged => Input::Bytes(got),
         Head::Record { len, .. } => {
             let end = 6 + len;
-            Came::Bytes(6 + io::read_full(STDIN_FILENO, &mut buffer[6..end]))
+            Input::Bytes(6 + io::read_full(STDIN_FILENO, &mut buffer[6..end]))
         }
     }
 }
@@ -75,30 +75,30 @@ fn say(text: &[u8], count: usize) -> bool {
 
 // Prints what there is to print for what was read of a record. Where a line cannot be written,
 // nothing more is printed: those behind it would hide that it is missing.
-fn say_turn(number: u64, session: Session, bytes: &[u8]) -> Went
+fn say_next_line(number: u64, session: Session, bytes: &[u8]) -> Progress
     ensures { λ r. ⌜ GoesOn session r (front (now (bytes .entry))) ⌝ }
 {
-    let mut line = [0u8; records::LONGEST_LINE];
-    match records::put_turn(&mut line, number, session, bytes) {
-        Turn::Line { count, session } => {
+    let mut line = [0u8; LONGEST_LINE];
+    match records_printed::put_next_line(&mut line, number, session, bytes) {
+        CountedLine::Record { count, session } => {
             if say(&line, count) {
-                return Went::On(session);
+                return Progress::On(session);
             }
-            Went::Unwritten
+            Progress::Unwritten
         }
-        Turn::Last(count) => {
+        CountedLine::Last(count) => {
             say(&line, count);
-            Went::Ended
+            Progress::Ended
         }
         // Not reached: there is room.
-        Turn::Refused(_) => Went::Ended,
+        CountedLine::Refused(_) => Progress::Ended,
     }
 }
 
 // The input could not be read to its end: what is left of it counts as a cut record.
 fn say_damaged(session: Session) {
-    let mut line = [0u8; records::LONGEST_LINE];
-    if let Put::Bytes(count) = records::put_last_line(&mut line, 0, true, session) {
+    let mut line = [0u8; LONGEST_LINE];
+    if let Counted::Count(count) = records_printed::put_last_line(&mut line, 0, true, session) {
         say(&line, count);
     }
 }
@@ -110,11 +110,11 @@ fn main() {
     let mut session = Session::FRESH;
     let mut number: u64 = 1;
     while number < u64::MAX {
-        let Came::Bytes(got) = read_record(&mut buffer) else {
+        let Input::Bytes(got) = read_record(&mut buffer) else {
             say_damaged(session);
             return;
         };
-        let Went::On(after) = say_turn(number, session, &buffer[..got]) else {
+        let Progress::On(after) = say_next_line(number, session, &buffer[..got]) else {
             return;
         };
         session = after;

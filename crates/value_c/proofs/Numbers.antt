@@ -1,7 +1,7 @@
--- Numbers as the machine holds them, and lent numbers that are put from equal ones.
+-- Numbers as the machine holds them.
 use mathlib.Core.Path.{_≡_, refl, ap, _∙_}
 use mathlib.Core.Bool.{Bool, true, false}
-use mathlib.Core.List.{List}
+use Prim.Native.Nat.{ℕ}
 use lib.Ieee.{Float, binary64, ofBits, ofFields, odd}
 use lib.IntN.{ℤ}
 use mir.Facts.{toZ-ofZ}
@@ -11,7 +11,7 @@ use borrow.Author.Needs.{needs}
 use Rattle.sedna_instant.specs.declared.Order.{Order}
 use Rattle.sedna_instant.specs.declared.Order.the-variants.{Earlier, Same, Later}
 use Rattle.value_c.specs.Orders.{orderNumber}
-use Rattle.value_c.specs.Values.{zero, flagOf, numbersPut, realPut}
+use Rattle.value_c.specs.Values.{zero, flagOf, inNumbers}
 
 pub zero-bits : ofBits binary64 0 ≡ zero
 unfolding ofBits ofFields odd
@@ -32,8 +32,5 @@ order-fits Later = search needs
 pub order-kept : {z : ℤ} (o : Order) → z ≡ orderNumber o → toZ w32 (ofZ w32 z) ≡ orderNumber o
 order-kept o e = ap (λ (x : ℤ). toZ w32 (ofZ w32 x)) e ∙ toZ-ofZ (order-fits o)
 
-pub numbers-eq : {a x b y : ℤ} (d : List ℤ) → a ≡ x → b ≡ y → numbersPut a b d ≡ numbersPut x y d
-numbers-eq {x = x} {b = b} d e f = ap (λ (z : ℤ). numbersPut z b d) e ∙ ap (λ (z : ℤ). numbersPut x z d) f
-
-pub real-eq : {x y : Float} (d : List Float) → x ≡ y → realPut x d ≡ realPut y d
-real-eq d e = ap (λ (z : Float). realPut z d) e
+pub numbers-eq : {a x b y : ℤ} {d z : Float} (what : ℕ) → a ≡ x → b ≡ y → d ≡ z → inNumbers what a b d ≡ inNumbers what x y z
+numbers-eq what e f g = λ i. inNumbers what (e i) (f i) (g i)

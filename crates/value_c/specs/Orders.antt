@@ -3,14 +3,13 @@ use Prim.Native.Nat.{ℕ}
 use lib.IntN.{ℤ, pos, negsuc}
 use Rattle.sedna_instant.specs.declared.Instant.{Instant}
 use Rattle.sedna_instant.specs.declared.Order.{Order}
-use Rattle.sedna_instant.specs.declared.Order.the-variants.{Earlier, Same, Later}
 use Rattle.sedna_instant.specs.Orders.{ordered}
 
 -- -1 earlier, 0 the same, 1 later
 abbrev pub orderNumber : Order → ℤ
-orderNumber Earlier = negsuc 0
-orderNumber Same = pos 0
-orderNumber Later = pos 1
+orderNumber Order.Earlier = negsuc 0
+orderNumber Order.Same = pos 0
+orderNumber Order.Later = pos 1
 
 abbrev pub instant : ℤ → ℕ → Instant
 instant seconds nanos = record { seconds = seconds; nanos = nanos }

@@ -1,6 +1,7 @@
 -- Typed values for programs in C and Rust: what a value is, two whole numbers and a double.
 use mathlib.Core.Bool.{Bool, false}
 use mathlib.Core.List.{List, _∷_}
+use mathlib.Core.Path.{_≡_}
 use Prim.Native.Nat.{ℕ}
 use lib.Dec.{ltb}
 use lib.Ieee.{Float, fin}
@@ -8,75 +9,58 @@ use lib.IntN.{ℤ, pos}
 use lib.ListN.{length, drop}
 use Rattle.wire.specs.Bytes.{if}
 use Rattle.wire.specs.declared.Refusal.{Refusal}
-use Rattle.wire.specs.declared.Refusal.the-variants.{NoRoom}
-use Rattle.wire.specs.Refusals.{refusalCode}
+use Rattle.answer_c.specs.Codes.{refusalCode}
 use Rattle.sedna_value.specs.declared.Value.{Value}
-use Rattle.sedna_value.specs.declared.Value.the-variants.{Whole, At, Truth, Double}
 use Rattle.sedna_value.specs.declared.Valued.{Valued}
-use Rattle.sedna_value.specs.declared.Valued.the-variants as valued
 use Rattle.sedna_value.specs.Values.{valueOf}
-
--- what it is: 1 a whole number, 2 an instant, 3 a yes or no, 4 a double
-abbrev pub whatOf : Value → ℕ
-whatOf (Whole i) = 1
-whatOf (At t) = 2
-whatOf (Truth b) = 3
-whatOf (Double x) = 4
+use Rattle.value_c.specs.declared.ValueNumbers.{ValueNumbers}
 
 abbrev pub flagOf : Bool → ℤ
 flagOf b = if b (pos 1) (pos 0)
-
--- its numbers: the whole number; seconds and nanoseconds; 1 for yes. One that a value does not use is 0.
-abbrev pub firstOf : Value → ℤ
-firstOf (Whole i) = i
-firstOf (At t) = t .seconds
-firstOf (Truth b) = flagOf b
-firstOf (Double x) = pos 0
-
-abbrev pub secondOf : Value → ℤ
-secondOf (Whole i) = pos 0
-secondOf (At t) = pos (t .nanos)
-secondOf (Truth b) = pos 0
-secondOf (Double x) = pos 0
 
 -- 0.0
 abbrev pub zero : Float
 zero = fin false 0 (pos 0)
 
--- its double, and 0.0 for what is none
-abbrev pub realOf : Value → Float
-realOf (Whole i) = zero
-realOf (At t) = zero
-realOf (Truth b) = zero
-realOf (Double x) = x
+abbrev pub inNumbers : ℕ → ℤ → ℤ → Float → ValueNumbers
+inNumbers what first second double = record { what = what; first = first; second = second; double = double }
 
--- the lent numbers and the lent doubles once they are put there
-abbrev pub numbersPut : ℤ → ℤ → List ℤ → List ℤ
-numbersPut first second d = first ∷ second ∷ drop 2 d
-
-abbrev pub realPut : Float → List Float → List Float
-realPut x d = x ∷ drop 1 d
+-- what it is, 1 a whole number, 2 an instant, 3 a yes or no, 4 a double; and its numbers: the whole number; seconds and nanoseconds; 1 for yes.
+-- One that a value does not use is 0.
+abbrev pub numbersOf : Value → ValueNumbers
+numbersOf (Value.Whole i) = inNumbers 1 i (pos 0) zero
+numbersOf (Value.At t) = inNumbers 2 (t .seconds) (pos (t .nanos)) zero
+numbersOf (Value.Boolean b) = inNumbers 3 (flagOf b) (pos 0) zero
+numbersOf (Value.Double x) = inNumbers 4 (pos 0) (pos 0) x
 
 -- the answer to a call, and the lent memory then
 pub record Outcome : Type 0 where
   pub code : ℕ
   pub numbers : List ℤ
-  pub real : List Float
+  pub doubles : List Float
+
+-- a contract: the call answers and leaves what the outcome says
+pub record ComesTo (o : Outcome) (r : ℕ) (numbers : List ℤ) (doubles : List Float) : Type 0 where
+  pub answers : r ≡ o .code
+  pub leaves-numbers : numbers ≡ o .numbers
+  pub leaves-doubles : doubles ≡ o .doubles
 
 abbrev pub unchanged : Refusal → List ℤ → List Float → Outcome
-unchanged r numbers real = record { code = refusalCode r; numbers = numbers; real = real }
+unchanged r numbers doubles = record { code = refusalCode r; numbers = numbers; doubles = doubles }
 
-abbrev pub told : Value → List ℤ → List Float → Outcome
-told v numbers real = record { code = whatOf v; numbers = numbersPut (firstOf v) (secondOf v) numbers; real = realPut (realOf v) real }
+-- in front of what is lent
+abbrev pub inFront : ValueNumbers → List ℤ → List Float → Outcome
+inFront n numbers doubles = record { code = n .what; numbers = n .first ∷ n .second ∷ drop 2 numbers; doubles = n .double ∷ drop 1 doubles }
 
 -- "10 last": where two numbers and a double are not lent
-unfoldable pub lentOutcome : Value → List ℤ → List Float → Outcome
-lentOutcome v numbers real =
-    if (ltb (length numbers) 2) (unchanged NoRoom numbers real) (if (ltb (length real) 1) (unchanged NoRoom numbers real) (told v numbers real))
+unfoldable pub lentOutcome : ValueNumbers → List ℤ → List Float → Outcome
+lentOutcome n numbers doubles =
+    if (ltb (length numbers) 2) (unchanged Refusal.NoRoom numbers doubles)
+    (if (ltb (length doubles) 1) (unchanged Refusal.NoRoom numbers doubles) (inFront n numbers doubles))
 
 abbrev pub valuedOutcome : Valued → List ℤ → List Float → Outcome
-valuedOutcome (valued.Is v) numbers real = lentOutcome v numbers real
-valuedOutcome (valued.Refused r) numbers real = unchanged r numbers real
+valuedOutcome (Valued.Is v) numbers doubles = lentOutcome (numbersOf v) numbers doubles
+valuedOutcome (Valued.Refused r) numbers doubles = unchanged r numbers doubles
 
 unfoldable pub outcome : ℕ → ℕ → List ℕ → List ℤ → List Float → Outcome
-outcome class type text numbers real = valuedOutcome (valueOf class type text) numbers real
+outcome class type text numbers doubles = valuedOutcome (valueOf class type text) numbers doubles

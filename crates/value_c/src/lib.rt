@@ -3,26 +3,14 @@
 ghost use mathlib.Core.Path.{_≡_};
 ghost use Prim.Native.Nat.{_≤_};
 ghost use lib.ListN.{length};
-ghost use Rattle.value_c.specs.Values.{flagOf, numbersPut, realPut, told, lentOutcome, outcome};
+ghost use Rattle.value_c.specs.Values.{flagOf, inNumbers, numbersOf, inFront, lentOutcome, outcome, ComesTo};
 ghost use Rattle.value_c.specs.Orders.{orderNumber, compared};
+use answer_c::refusal_code;
 use sedna_instant::Instant;
 use sedna_instant::Order;
-use sedna_instant::compare;
 use sedna_value::Value;
 use sedna_value::Valued;
-use sedna_value::value_of;
 use wire::Refusal;
-use wire::refusal_code;
-
-fn put(numbers: &mut [i64], real: &mut [f64], first: i64, second: i64, x: f64)
-    requires { ⌜ (2 ≤ length (now numbers)) × (1 ≤ length (now real)) ⌝ }
-    ensures { λ _. ⌜ (now (numbers .exit) ≡ numbersPut first second (now (numbers .entry)))
-        × (now (real .exit) ≡ realPut x (now (real .entry))) ⌝ }
-{
-    numbers[0] = first;
-    numbers[1] = second;
-    real[0] = x;
-}
 
 fn flag(b: bool) -> i64
     ensures { λ r. ⌜ r ≡ flagOf b ⌝ }
@@ -30,47 +18,58 @@ fn flag(b: bool) -> i64
     if b { 1 } else { 0 }
 }
 
-// What a value is, and its numbers; those that it does not use are 0.
-fn tell(numbers: &mut [i64], real: &mut [f64], value: Value) -> u64
-    requires { ⌜ (2 ≤ length (now numbers)) × (1 ≤ length (now real)) ⌝ }
-    ensures { λ r. ⌜ (r ≡ told value (now (numbers .entry)) (now (real .entry)) .code)
-        × (now (numbers .exit) ≡ told value (now (numbers .entry)) (now (real .entry)) .numbers)
-        × (now (real .exit) ≡ told value (now (numbers .entry)) (now (real .entry)) .real) ⌝ }
+// A value in numbers: what it is, two whole numbers and a double. Those that it does not use are 0.
+struct ValueNumbers {
+    what: u64,
+    first: i64,
+    second: i64,
+    double: f64,
+}
+
+fn in_numbers(what: u64, first: i64, second: i64, double: f64) -> ValueNumbers
+    ensures { λ r. ⌜ r ≡ inNumbers what first second double ⌝ }
 {
-    match value {
-        Value::Whole(n) => {
-            put(numbers, real, n, 0, 0.0);
-            1
-        }
-        Value::At(t) => {
-            put(numbers, real, t.seconds, t.nanos as i64, 0.0);
-            2
-        }
-        Value::Truth(b) => {
-            let yes = flag(b);
-            put(numbers, real, yes, 0, 0.0);
-            3
-        }
-        Value::Double(x) => {
-            put(numbers, real, 0, 0, x);
-            4
-        }
+    ValueNumbers {
+        what,
+        first,
+        second,
+        double,
     }
 }
 
+fn put(numbers: &mut [i64], doubles: &mut [f64], n: ValueNumbers) -> u64
+    requires { ⌜ (2 ≤ length (now numbers)) × (1 ≤ length (now doubles)) ⌝ }
+    ensures { λ r. ⌜ ComesTo (inFront n (now (numbers .entry)) (now (doubles .entry))) r (now (numbers .exit)) (now (doubles .exit)) ⌝ }
+{
+    let first = n.first;
+    let second = n.second;
+    numbers[0] = first;
+    numbers[1] = second;
+    doubles[0] = n.double;
+    n.what
+}
+
 // 10 where there is no room to tell it, behind every refusal of the text.
-fn tell_lent(numbers: &mut [i64], real: &mut [f64], value: Value) -> u64
-    ensures { λ r. ⌜ (r ≡ lentOutcome value (now (numbers .entry)) (now (real .entry)) .code)
-        × (now (numbers .exit) ≡ lentOutcome value (now (numbers .entry)) (now (real .entry)) .numbers)
-        × (now (real .exit) ≡ lentOutcome value (now (numbers .entry)) (now (real .entry)) .real) ⌝ }
+fn tell(numbers: &mut [i64], doubles: &mut [f64], value: Value) -> u64
+    ensures { λ r. ⌜ ComesTo (lentOutcome (numbersOf value) (now (numbers .entry)) (now (doubles .entry))) r
+        (now (numbers .exit)) (now (doubles .exit)) ⌝ }
 {
     if numbers.len() < 2 {
         return refusal_code(Refusal::NoRoom);
     }
-    if real.len() < 1 {
+    if doubles.len() < 1 {
         return refusal_code(Refusal::NoRoom);
     }
-    tell(numbers, real, value)
+    match value {
+        Value::Whole(n) => put(numbers, doubles, in_numbers(1, n, 0, 0.0)),
+        Value::At(t) => put(
+            numbers,
+            doubles,
+            in_numbers(2, t.seconds, t.nanos as i64, 0.0),
+        ),
+        Value::Boolean(b) => put(numbers, doubles, in_numbers(3, flag(b), 0, 0.0)),
+        Value::Double(x) => put(numbers, doubles, in_numbers(4, 0, 0, x)),
+    }
 }
 
 // The value of an item's text, by its class and type. The answer is what it is: 1 a whole number,
@@ -81,15 +80,14 @@ pub extern "C" fn kdr_value(
     kind: u8,
     text: &[u8],
     numbers: &mut [i64],
-    real: &mut [f64],
+    doubles: &mut [f64],
 ) -> u64
-    ensures { λ r. ⌜ (r ≡ outcome class kind (now (text .entry)) (now (numbers .entry)) (now (real .entry)) .code)
-        × (now (numbers .exit) ≡ outcome class kind (now (text .entry)) (now (numbers .entry)) (now (real .entry)) .numbers)
-        × (now (real .exit) ≡ outcome class kind (now (text .entry)) (now (numbers .entry)) (now (real .entry)) .real) ⌝ }
+    ensures { λ r. ⌜ ComesTo (outcome class kind (now (text .entry)) (now (numbers .entry)) (now (doubles .entry))) r
+        (now (numbers .exit)) (now (doubles .exit)) ⌝ }
 {
-    match value_of(class, kind, text) {
+    match sedna_value::value_of(class, kind, text) {
         Valued::Refused(r) => refusal_code(r),
-        Valued::Is(value) => tell_lent(numbers, real, value),
+        Valued::Is(value) => tell(numbers, doubles, value),
     }
 }
 
@@ -122,5 +120,5 @@ pub extern "C" fn kdr_compare(
         seconds: b_seconds,
         nanos: b_nanoseconds,
     };
-    order_number(compare(a, b))
+    order_number(sedna_instant::compare(a, b))
 }

@@ -7,33 +7,6 @@ use Rattle.basex_request.proofs.Judging.{two, strings-refused, others-r
 use Rattle.basex_request.proofs.strings_from.Statement.{statement}
 use Rattle.basex_request.proofs.strings_from.Tie as tie
 
-two-at-requires : tie.Need-two-at-requires
-two-at-requires c κs = search needs
-
-enum-known-r : tie.Need-enum-known-r
-enum-known-r c = search needs
-
-enum-known-first : tie.Need-enum-known-first
-enum-known-first c = search needs
-
-beyond-two-requires : tie.Need-beyond-two-requires
-beyond-two-requires c κs = search needs
-
-two-at-requires-2 : tie.Need-two-at-requires-2
-two-at-requires-2 c κs = search needs
-
-enum-known-r-2 : tie.Need-enum-known-r-2
-enum-known-r-2 c = search needs
-
-enum-known-third : tie.Need-enum-known-third
-enum-known-third c = search needs
-
-returns : tie.Need-returns
-returns c =
-    let d = c .before .before .before .before .before in
-    let a = d .args in
-    strings-refused (a .bytes .now) (a .kind) (a .from) (a .n) (d .pre) _ (sym (c .before .r .given .1) ∙ c .before .before .before .two-at .ensures)
-
 returns-2 : tie.Need-returns-2
 returns-2 c =
     let d = c .before .before .before .before .before .before .before .before .before .before in
@@ -59,13 +32,16 @@ pub strings-from-spec : {M : Type 1} → statement M
 strings-from-spec =
     tie.close
     (tie.spec
-    two-at-requires
-    enum-known-r
-    enum-known-first
-    beyond-two-requires
-    two-at-requires-2
-    enum-known-r-2
-    enum-known-third
-    returns
+    (λ c κs. search needs)
+    (λ c. search needs)
+    (λ c. search needs)
+    (λ c κs. search needs)
+    (λ c κs. search needs)
+    (λ c. search needs)
+    (λ c. search needs)
+    (λ c.
+    let d = c .before .before .before .before .before in
+    let a = d .args in
+    strings-refused (a .bytes .now) (a .kind) (a .from) (a .n) (d .pre) _ (sym (c .before .r .given .1) ∙ c .before .before .before .two-at .ensures))
     returns-2
     returns-3)

@@ -2,11 +2,5 @@ use borrow.Author.Tests.{eq-eqb, ne-eqb}
 use Rattle.basex_string.proofs.opens.Statement.{statement}
 use Rattle.basex_string.proofs.opens.Tie as tie
 
-returns : tie.Need-returns
-returns c = rw (eq-eqb _ _ (c .if1 .taken))
-
-returns-2 : tie.Need-returns-2
-returns-2 c = rw (ne-eqb _ _ (c .if1 .left))
-
 pub opens-spec : {M : Type 1} → statement M
-opens-spec = tie.close (tie.spec returns returns-2)
+opens-spec = tie.close (tie.spec (λ c. rw (eq-eqb _ _ (c .if1 .taken))) (λ c. rw (ne-eqb _ _ (c .if1 .left))))

@@ -5,7 +5,7 @@ use native.Mathlib.Omega.{arith}
 use lib.Dec.{leb}
 use lib.ListN.{drop}
 use borrow.Author.Needs.{needs}
-use Rattle.basex_string.specs.Answers.{run}
+use Rattle.basex_string.specs.inner.Runs.{run}
 use Rattle.basex_string.proofs.Runs.{block-none, block-special, block-plain}
 use Rattle.basex_string.proofs.plain_block.Statement.{statement}
 use Rattle.basex_string.proofs.plain_block.Tie as tie
@@ -16,24 +16,6 @@ Inv-loop s at plain₀ i₀ plain i = (i ≤ 16) × (plain ≡ leb i (run (drop 
 abbrev μ-loop : tie.MeasureT-loop
 μ-loop s at plain₀ i₀ plain i = 16 - i
 
-loop-holds : tie.Need-loop-holds Inv-loop μ-loop
-loop-holds c = (search needs, block-none (run (drop (c .before .args .at) (c .before .args .s .now))))
-
-add-is-special : tie.Need-add-is-special Inv-loop μ-loop
-add-is-special c = omega arith
-
-shared-slice-read-is-special : tie.Need-shared-slice-read-is-special Inv-loop μ-loop
-shared-slice-read-is-special c = omega arith
-
-is-special-requires : tie.Need-is-special-requires Inv-loop μ-loop
-is-special-requires c κs = search needs
-
-add-i : tie.Need-add-i Inv-loop μ-loop
-add-i c = omega arith
-
-loop-less : tie.Need-loop-less Inv-loop μ-loop
-loop-less c = omega arith
-
 loop-again : tie.Need-loop-again Inv-loop μ-loop
 loop-again c = (
   omega arith,
@@ -43,20 +25,17 @@ loop-again c = (
       (c .if1 .came),
 )
 
-returns : tie.Need-returns Inv-loop μ-loop
-returns c = let e : c .before .loop .i ≡ 16 = omega arith in rw e at (c .before .loop .inv .1)
-
 pub plain-block-spec : {M : Type 1} → statement M
 plain-block-spec =
     tie.close
     (tie.spec
     Inv-loop
     μ-loop
-    loop-holds
-    add-is-special
-    shared-slice-read-is-special
-    is-special-requires
-    add-i
-    loop-less
+    (λ c. (search needs, block-none (run (drop (c .before .args .at) (c .before .args .s .now)))))
+    (λ c. omega arith)
+    (λ c. omega arith)
+    (λ c κs. search needs)
+    (λ c. omega arith)
+    (λ c. omega arith)
     loop-again
-    returns)
+    (λ c. let e : c .before .loop .i ≡ 16 = omega arith in rw e at (c .before .loop .inv .1)))

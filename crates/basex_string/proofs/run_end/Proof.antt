@@ -4,12 +4,6 @@ use Rattle.basex_string.proofs.Runs.{run-start}
 use Rattle.basex_string.proofs.run_end.Statement.{statement}
 use Rattle.basex_string.proofs.run_end.Tie as tie
 
-skip-blocks-requires : tie.Need-skip-blocks-requires
-skip-blocks-requires c κs = search needs
-
-few-end-requires : tie.Need-few-end-requires
-few-end-requires c κs = search needs
-
 returns : tie.Need-returns
 returns c =
     let a = c .before .before .before .args in
@@ -17,4 +11,4 @@ returns c =
     omega arith
 
 pub run-end-spec : {M : Type 1} → statement M
-run-end-spec = tie.close (tie.spec skip-blocks-requires few-end-requires returns)
+run-end-spec = tie.close (tie.spec (λ c κs. search needs) (λ c κs. search needs) returns)

@@ -4,8 +4,8 @@ use Prim.Native.Nat.{_+_, _-_, _≤_}
 use native.Mathlib.Omega.{arith}
 use lib.ListN.{length, drop, length-set}
 use borrow.Author.Needs.{needs}
-use Rattle.wire.specs.Bytes.{over}
-use Rattle.wire.proofs.Over.{Ahead, start, last}
+use Rattle.wire.specs.Bytes.{splice}
+use Rattle.wire.proofs.Splices.{Ahead, start, last}
 use Rattle.basex_string.specs.Strings.{string}
 use Rattle.basex_string.proofs.Steps.{string-length, string-end, string-special, string-plain, put-one, ahead-pair, ahead-over}
 use Rattle.basex_string.proofs.store_few.Statement.{statement}
@@ -14,33 +14,10 @@ use Rattle.basex_string.proofs.store_few.Tie as tie
 abbrev Inv-loop : tie.InvT-loop
 Inv-loop out₀ at part to₀ i₀ out to i =
     (length out ≡ length out₀)
-    × ((i ≤ length part) × ((to + length (string (drop i part)) ≡ at + length (string part)) × Ahead (over out₀ at (string part)) out to (string (drop i part))))
+    × ((i ≤ length part) × ((to + length (string (drop i part)) ≡ at + length (string part)) × Ahead (splice out₀ at (string part)) out to (string (drop i part))))
 
 abbrev μ-loop : tie.MeasureT-loop
 μ-loop out₀ at part to₀ i₀ out to i = length part - i
-
-loop-holds : tie.Need-loop-holds Inv-loop μ-loop
-loop-holds c = (refl, (search needs, (refl, start (c .before .before .args .out .now) (c .before .before .args .at) (string (c .before .before .args .part .now)) (c .before .before .pre))))
-
-shared-slice-read-b : tie.Need-shared-slice-read-b Inv-loop μ-loop
-shared-slice-read-b c = omega arith
-
-slice-write-out : tie.Need-slice-write-out Inv-loop μ-loop
-slice-write-out c =
-    let s = c .before .before .before .before .before .args .part .now in
-    let i = c .before .before .loop .i in
-    let n = string-length (drop i s) in
-    omega arith
-
-is-special-requires : tie.Need-is-special-requires Inv-loop μ-loop
-is-special-requires c κs = search needs
-
-add-to : tie.Need-add-to Inv-loop μ-loop
-add-to c =
-    let s = c .before .before .before .before .before .before .before .args .part .now in
-    let i = c .before .before .before .before .loop .i in
-    let n = string-length (drop i s) in
-    omega arith
 
 slice-write-out-2 : tie.Need-slice-write-out-2 Inv-loop μ-loop
 slice-write-out-2 c =
@@ -63,12 +40,6 @@ add-to-2 c =
     (λ w. omega arith)
     (c .before .if1 .came)
 
-add-i : tie.Need-add-i Inv-loop μ-loop
-add-i c = omega arith
-
-loop-less : tie.Need-loop-less Inv-loop μ-loop
-loop-less c = omega arith
-
 loop-again : tie.Need-loop-again Inv-loop μ-loop
 loop-again c =
     let s = c .before .before .before .before .before .before .before .before .args .part .now in
@@ -82,34 +53,34 @@ loop-again c =
     (λ w. let f = string-plain s i h (e ∙ w .0 .left) in let l = ap length f in (simp length-set (v .0), (omega arith, (omega arith, ahead-over (c .before .if1 .to) f (v .1 .1 .1) (w .1)))))
     (c .before .if1 .came)
 
-slice-write-out-3 : tie.Need-slice-write-out-3 Inv-loop μ-loop
-slice-write-out-3 c = let e = ap length (string-end (c .before .before .before .before .args .part .now) (c .before .loop .i) (c .loop-test .left)) in omega arith
-
-same-length : tie.Need-same-length Inv-loop μ-loop
-same-length c = simp length-set (c .before .loop .inv .0)
-
-returns : tie.Need-returns Inv-loop μ-loop
-returns c =
-    let e = string-end (c .before .before .before .before .args .part .now) (c .before .loop .i) (c .loop-test .left) in
-    let l = ap length e in
-    (omega arith, last (subst (Ahead _ _ _) e (c .before .loop .inv .1 .1 .1)) (put-one _ _ 0 (omega arith)))
-
 pub store-few-spec : {M : Type 1} → statement M
 store-few-spec =
     tie.close
     (tie.spec
     Inv-loop
     μ-loop
-    loop-holds
-    shared-slice-read-b
-    slice-write-out
-    is-special-requires
-    add-to
+    (λ c.
+    (refl, (search needs, (refl, start (c .before .before .args .out .now) (c .before .before .args .at) (string (c .before .before .args .part .now)) (c .before .before .pre)))))
+    (λ c. omega arith)
+    (λ c.
+    let s = c .before .before .before .before .before .args .part .now in
+    let i = c .before .before .loop .i in
+    let n = string-length (drop i s) in
+    omega arith)
+    (λ c κs. search needs)
+    (λ c.
+    let s = c .before .before .before .before .before .before .before .args .part .now in
+    let i = c .before .before .before .before .loop .i in
+    let n = string-length (drop i s) in
+    omega arith)
     slice-write-out-2
     add-to-2
-    add-i
-    loop-less
+    (λ c. omega arith)
+    (λ c. omega arith)
     loop-again
-    slice-write-out-3
-    same-length
-    returns)
+    (λ c. let e = ap length (string-end (c .before .before .before .before .args .part .now) (c .before .loop .i) (c .loop-test .left)) in omega arith)
+    (λ c. simp length-set (c .before .loop .inv .0))
+    (λ c.
+    let e = string-end (c .before .before .before .before .args .part .now) (c .before .loop .i) (c .loop-test .left) in
+    let l = ap length e in
+    (omega arith, last (subst (Ahead _ _ _) e (c .before .loop .inv .1 .1 .1)) (put-one _ _ 0 (omega arith)))))

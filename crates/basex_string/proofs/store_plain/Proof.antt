@@ -4,22 +4,10 @@ use Prim.Native.Nat.{_+_}
 use native.Mathlib.Omega.{arith}
 use lib.ListN.{length, length-append}
 use borrow.Author.Needs.{needs}
-use Rattle.wire.proofs.Over.{placed-fits, both}
+use Rattle.wire.proofs.Splices.{putAt-fits, both}
 use Rattle.basex_string.proofs.Steps.{put-one}
 use Rattle.basex_string.proofs.store_plain.Statement.{statement}
 use Rattle.basex_string.proofs.store_plain.Tie as tie
-
-put-bytes-requires : tie.Need-put-bytes-requires
-put-bytes-requires c κs = search needs
-
-add-out : tie.Need-add-out
-add-out c = search needs
-
-slice-write-out : tie.Need-slice-write-out
-slice-write-out c = search needs
-
-same-length : tie.Need-same-length
-same-length c = search needs
 
 returns : tie.Need-returns
 returns c =
@@ -27,8 +15,8 @@ returns c =
     let at = c .before .before .before .before .before .before .args .at in
     let s = c .before .before .before .before .before .before .args .text .now in
     let l = length-append s (0 ∷ []) in
-    both d at s (0 ∷ []) (at + length s) (omega arith) (c .before .before .put-bytes .ensures) (put-one _ _ 0 (omega arith)) refl ∙ placed-fits d at (s ++ 0 ∷ []) (omega arith)
+    both d at s (0 ∷ []) (at + length s) (omega arith) (c .before .before .put-bytes .ensures) (put-one _ _ 0 (omega arith)) refl ∙ putAt-fits d at (s ++ 0 ∷ []) (omega arith)
 
 pub store-plain-spec : {M : Type 1} → statement M
 store-plain-spec =
-    tie.close (tie.spec put-bytes-requires add-out slice-write-out same-length returns)
+    tie.close (tie.spec (λ c κs. search needs) (λ c. search needs) (λ c. search needs) (λ c. search needs) returns)

@@ -11,8 +11,9 @@ use borrow.Author.Tests.{ltb-true, ltb-false, lt-ltb, le-ltb}
 use Rattle.wire.specs.Fields.{Got}
 use Rattle.wire.specs.declared.Refusal.{Refusal}
 use Rattle.wire.specs.declared.Refusal.the-variants.{NoRoom}
-use Rattle.wire.specs.Refusals.{numberOf, refusalCode}
-use Rattle.basex_exact.specs.Exactly as exact
+use Rattle.wire.specs.Refusals.{numberOf}
+use Rattle.answer_c.specs.Codes.{refusalCode}
+use Rattle.basex_laws.specs.Exactly as exact
 use Rattle.basex_c.specs.Codes.{Outcome, lent}
 use Rattle.demands.specs.Answered.{REFUSED, Answered, answered}
 use Rattle.demands.specs.BaseXCalls.{Lendable, Called, telling, Right, Unread, Fields}

@@ -9,11 +9,11 @@ use lib.Dec.{ltb}
 use lib.ListN.{length, take, drop, getD, length-append}
 use lib.Seq.{take-append-seam, drop-append-seam}
 use borrow.Author.Tests.{leb-true, lt-ltb, le-ltb, ltb-true, ltb-false}
-use Rattle.wire.specs.Bytes.{over}
+use Rattle.wire.specs.Bytes.{splice}
 use Rattle.wire.specs.declared.Place.{Place}
 use Rattle.wire.specs.declared.Refusal.{Refusal}
 use Rattle.wire.specs.declared.Refusal.the-variants.{UnknownInstruction, ValueNotAllowed, NoRoom}
-use Rattle.wire.proofs.Over.{placed-fits, length-over}
+use Rattle.wire.proofs.Splices.{putAt-fits, length-splice}
 use Rattle.basex.specs.declared.Found.{Found}
 use Rattle.basex.specs.declared.Found.the-variants.{Known, Unknown}
 use Rattle.basex.specs.declared.Reply.{Reply}
@@ -23,9 +23,9 @@ use Rattle.basex.specs.Texts.{lengthAt}
 use Rattle.basex_response.specs.Errors.{errorAt}
 use Rattle.basex_response.specs.Items.{itemTexts}
 use Rattle.basex_response.specs.Reading.{allTexts}
-use Rattle.basex_exact.proofs.Exactly.{errors-exactly}
-use Rattle.basex_exact.proofs.Handed.{flatten-append}
-use Rattle.basex_exact.proofs.Responses.{response-exact}
+use Rattle.basex_laws.proofs.Exactly.{errors-exactly}
+use Rattle.basex_response.proofs.Sizes.{flatten-append}
+use Rattle.basex_laws.proofs.Responses.{response-exact}
 use Rattle.basex_c.specs.declared.errors.ErrorIn.{ErrorIn}
 use Rattle.basex_c.specs.declared.errors.ErrorIn.the-variants as error-in
 use Rattle.basex_c.specs.Codes.{lent}
@@ -121,12 +121,12 @@ abbrev There : List ℕ → List ℕ → ℕ → ℕ → Type 0
 There out t start len = (start + len ≤ length out) × (take len (drop start out) ≡ t)
 
 -- the last of the texts put in front of an output
-last-there : (out front t : List ℕ) → length (front ++ t) ≤ length out → There (over out 0 (front ++ t)) t (length front) (length t)
-unfolding over
+last-there : (out front t : List ℕ) → length (front ++ t) ≤ length out → There (splice out 0 (front ++ t)) t (length front) (length t)
+unfolding splice
 last-there out front t h =
     let z = drop (0 + length (front ++ t)) out in
     let l = length-append front t in
-    let k = length-over out 0 (front ++ t) (omega arith) in
+    let k = length-splice out 0 (front ++ t) (omega arith) in
     (omega arith, ap (λ (m : List ℕ). take (length t) (drop (length front) m)) (append-assoc front t z) ∙ ap (take (length t)) (drop-append-seam front (t ++ z)) ∙ take-append-seam t z)
 
 module _ (kind : ℕ) (s : List ℕ) (r : Response) (rest out told place : List ℕ) (h : Stands kind r s rest) (fits : length (flatten (allTexts r)) ≤ length out) (six : 6 ≤ length told) where
@@ -137,10 +137,10 @@ module _ (kind : ℕ) (s : List ℕ) (r : Response) (rest out told place : List 
   told-is : calls.readResponseCalled kind s out told .told ≡ numbers ++ drop 6 told
   told-is = rw (response-exact kind s r rest .1 h, le-ltb (length out) (length (flatten (allTexts r))) fits, le-ltb (length told) 6 six)
 
-  out-is : calls.readResponseCalled kind s out told .out ≡ over out 0 (flatten (allTexts r))
+  out-is : calls.readResponseCalled kind s out told .out ≡ splice out 0 (flatten (allTexts r))
   out-is =
       rw (response-exact kind s r rest .1 h, le-ltb (length out) (length (flatten (allTexts r))) fits, le-ltb (length told) 6 six)
-      (placed-fits out 0 (flatten (allTexts r)) (omega (arith, fits)))
+      (putAt-fits out 0 (flatten (allTexts r)) (omega (arith, fits)))
 
   abbrev Told : List ℕ → List ℕ → Type 0
   Told o t = ErrorTold (errorOf (h .reply) r) o place (calls.errorCalled kind t place)
@@ -151,7 +151,7 @@ module _ (kind : ℕ) (s : List ℕ) (r : Response) (rest out told place : List 
       long : 6 ≤ length (numbers ++ drop 6 told)
       long = omega arith
 
-      failed : r .status ≡ 1 → (b : Bool) → ltb (length place) 2 ≡ b → Told (over out 0 (flatten (allTexts r))) (numbers ++ drop 6 told)
+      failed : r .status ≡ 1 → (b : Bool) → ltb (length place) 2 ≡ b → Told (splice out 0 (flatten (allTexts r))) (numbers ++ drop 6 told)
       failed e true l =
           let o = errors-exactly .error-one (h .reply) r (h .published) e in
           ErrorTold.no-room (o .error) (o .one) (ltb-true (length place) 2 l) (error-unlent kind (numbers ++ drop 6 told) place long (h .strings) (h .reply) (h .known) e (ltb-true (length place) 2 l))
@@ -161,13 +161,13 @@ module _ (kind : ℕ) (s : List ℕ) (r : Response) (rest out told place : List 
           let f = flat-last (allTexts r) (o .front) (o .error) (o .last) in
           let w = last-there out (flatten (o .front)) (o .error) (subst (λ (m : List ℕ). length m ≤ length out) f fits) in
           let c = error-is kind (numbers ++ drop 6 told) place long (h .strings) (h .reply) (h .known) e two in
-          let after = over out 0 (flatten (allTexts r)) in
-          let p = subst (λ (m : List ℕ). There (over out 0 m) (o .error) (length (flatten (o .front))) (length (o .error))) (sym f) w in
+          let after = splice out 0 (flatten (allTexts r)) in
+          let p = subst (λ (m : List ℕ). There (splice out 0 m) (o .error) (length (flatten (o .front))) (length (o .error))) (sym f) w in
           let q = subst (λ (x : Place). There after (o .error) (x .start) (x .len)) (sym (o .place)) p in
           let z = subst (λ (x : Called). There after (o .error) (errorNumbers (x .told) .start) (errorNumbers (x .told) .len)) (sym c) q in
           ErrorTold.one (o .error) (o .one) (some-error kind (numbers ++ drop 6 told) place long (h .strings) (h .reply) (h .known) e two) (z .0) (z .1)
 
-      by : (m : ℕ) → r .status ≡ m → Told (over out 0 (flatten (allTexts r))) (numbers ++ drop 6 told)
+      by : (m : ℕ) → r .status ≡ m → Told (splice out 0 (flatten (allTexts r))) (numbers ++ drop 6 told)
       by zero e =
           ErrorTold.none (errors-exactly .error-none (h .reply) r e) (no-error kind (numbers ++ drop 6 told) place long (h .strings) (h .reply) (h .known) e)
       by (suc zero) e = failed e (ltb (length place) 2) refl

@@ -19,9 +19,9 @@ use Rattle.basex.specs.Response.{Item, itemBytes}
 use Rattle.basex_response.specs.declared.ItemAt.{ItemAt}
 use Rattle.basex_response.specs.declared.ItemAt.the-variants as item-at
 use Rattle.basex_response.specs.Items.{next, itemAt}
-use Rattle.basex_exact.proofs.Exactly.{told-exactly}
-use Rattle.basex_exact.proofs.Listed.{OfFields, next-refuses, next-item}
-use Rattle.basex_exact.proofs.Moments.{item-moments}
+use Rattle.basex_laws.proofs.Exactly.{told-exactly}
+use Rattle.basex_laws.proofs.Listed.{OfFields, next-refuses, next-item}
+use Rattle.basex_laws.proofs.Moments.{item-moments}
 use Rattle.basex_c.specs.Codes.{lent}
 use Rattle.basex_c.specs.Told.{itemTold, itemIn}
 use Rattle.demands.specs.Answered.{Answered}

@@ -7,7 +7,7 @@ use native.Mathlib.Omega.{arith}
 use lib.ListN.{length, drop}
 use Rattle.basex_string.specs.declared.StringAt.{StringAt}
 use Rattle.basex_string.specs.declared.StringAt.the-variants as place
-use Rattle.basex_string.specs.Answers.{located, decoded, left}
+use Rattle.basex_string.specs.Answers.{located, decoded, outputRead}
 use Rattle.basex_string.specs.Scan as strings
 use Rattle.basex_string.specs.Strings.{string}
 use Rattle.basex_string.proofs.Laws as string-laws
@@ -22,9 +22,9 @@ use Rattle.basex_response.specs.declared.Replied.{Replied}
 use Rattle.basex_response.specs.declared.Replied.the-variants as replied
 use Rattle.basex_response.specs.Reading as responses
 use Rattle.basex_response.specs.Reading.{allTexts}
-use Rattle.basex_exact.specs.Exactly as exact
-use Rattle.basex_exact.proofs.Exactly.{told-exactly}
-use Rattle.basex_exact.proofs.Responses.{response-exact}
+use Rattle.basex_laws.specs.Exactly as exact
+use Rattle.basex_laws.proofs.Exactly.{told-exactly}
+use Rattle.basex_laws.proofs.Responses.{response-exact}
 use Rattle.basex_c.specs.Codes.{lent}
 use Rattle.basex_c.specs.Told.{stringTold, requestTold, responseTold}
 use Rattle.demands.specs.BaseXCalls as calls
@@ -56,13 +56,13 @@ module _ (s : List ℕ) (short : Lendable s) (at : ℕ) (told : List ℕ) where
       where
         by : (y : StringAt) → decoded (length s) (length out) to (strings.reading (drop at s)) ≡ y
             → Right (Unread (strings.reading (drop at s)) (λ t. NoPlace out (to + length t) told 1)) (Decoded s at out to told) out told
-            (telling out (left out to (strings.reading (drop at s))) told (lent (length told) (stringTold at y)))
-        by (place.Refused r) e = refuses out (left out to (strings.reading (drop at s))) told r (due (λ t h. inl h) (told-exactly .string-undecoded s at out to r .0 e))
+            (telling out (outputRead (λ s. s) out to (strings.reading (drop at s))) told (lent (length told) (stringTold at y)))
+        by (place.Refused r) e = refuses out (outputRead (λ s. s) out to (strings.reading (drop at s))) told r (due (λ t h. inl h) (told-exactly .string-undecoded s at out to r .0 e))
         by (place.At len n) e =
             let d = told-exactly .string-decoded s at out to len n .0 e in
             let l = d .long in
             let f = d .fits in
-            let store = left out to (strings.reading (drop at s)) in
+            let store = outputRead (λ s. s) out to (strings.reading (drop at s)) in
             tells out store told (n - at) (len ∷ []) (λ h. Unread.no-room (d .text) (drop n s) (d .reads .read) (inr h))
             (λ h. record { read = located-so len n store (d .text) (d .reads) l h; fits = omega arith; there = d .there; stored = d .stored })
 
@@ -71,12 +71,12 @@ module _ (s : List ℕ) (short : Lendable s) (out told : List ℕ) where
   read-request = by (requested (length s) (length out) (requests.reading s)) refl
     where
       by : (y : Requested) → requested (length s) (length out) (requests.reading s) ≡ y
-          → Right (Unread (requests.reading s) (λ q. NoPlace out (length (flatten (textsOf q))) told 5)) (RequestRead s out told) out told (telling out (requests.left out (requests.reading s)) told (lent (length told) (requestTold y)))
-      by (requested-as.Refused r) e = refuses out (requests.left out (requests.reading s)) told r (due (λ q h. inl h) (told-exactly .request-refused s out r .0 e))
+          → Right (Unread (requests.reading s) (λ q. NoPlace out (length (flatten (textsOf q))) told 5)) (RequestRead s out told) out told (telling out (outputRead requests.textBytes out 0 (requests.reading s)) told (lent (length told) (requestTold y)))
+      by (requested-as.Refused r) e = refuses out (outputRead requests.textBytes out 0 (requests.reading s)) told r (due (λ q h. inl h) (told-exactly .request-refused s out r .0 e))
       by (requested-as.Read kind a b c d n) e =
           let t = told-exactly .request-told s out kind a b c d n .0 e in
           let x = request-laws.reading-exact s (t .request) (drop n s) .0 (t .reads .read) in
-          tells out (requests.left out (requests.reading s)) told n (kind ∷ a ∷ b ∷ c ∷ d ∷ []) (λ h. Unread.no-room (t .request) (drop n s) (t .reads .read) (inr h))
+          tells out (outputRead requests.textBytes out 0 (requests.reading s)) told n (kind ∷ a ∷ b ∷ c ∷ d ∷ []) (λ h. Unread.no-room (t .request) (drop n s) (t .reads .read) (inr h))
           (λ h. record {
             value = t .request;
             rest = drop n s;
@@ -96,12 +96,12 @@ module _ (kind : ℕ) (s : List ℕ) (short : Lendable s) (out told : List ℕ) 
     where
       by : (y : Replied) → responses.answered (length s) (length out) (responses.reading kind s) ≡ y
           → Right (Unread (responses.reading kind s) (λ p. NoPlace out (length (flatten (allTexts p))) told 6)) (ResponseRead kind s out told) out told
-          (telling out (responses.left out (responses.reading kind s)) told (lent (length told) (responseTold y)))
-      by (replied.Refused r) e = refuses out (responses.left out (responses.reading kind s)) told r (due (λ p h. inl h) (told-exactly .response-refused kind s out r .0 e))
+          (telling out (outputRead responses.textBytes out 0 (responses.reading kind s)) told (lent (length told) (responseTold y)))
+      by (replied.Refused r) e = refuses out (outputRead responses.textBytes out 0 (responses.reading kind s)) told r (due (λ p h. inl h) (told-exactly .response-refused kind s out r .0 e))
       by (replied.Read first second items texts status error n) e =
           let t = told-exactly .response-told kind s out first second items texts status error n .0 e in
           let x = response-exact kind s (t .response) (drop n s) .0 (t .reads .read) in
-          tells out (responses.left out (responses.reading kind s)) told n (first ∷ second ∷ items ∷ texts ∷ status ∷ error ∷ []) (λ h. Unread.no-room (t .response) (drop n s) (t .reads .read) (inr h))
+          tells out (outputRead responses.textBytes out 0 (responses.reading kind s)) told n (first ∷ second ∷ items ∷ texts ∷ status ∷ error ∷ []) (λ h. Unread.no-room (t .response) (drop n s) (t .reads .read) (inr h))
           (λ h. record {
             value = t .response;
             rest = drop n s;

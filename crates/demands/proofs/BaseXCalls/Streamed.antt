@@ -7,11 +7,11 @@ use native.Mathlib.Omega.{arith}
 use lib.ListN.{length, drop, length-drop}
 use lib.Seq.{drop-append-seam}
 use Rattle.basex.specs.declared.Reply.{Reply}
-use Rattle.basex.specs.declared.Reply.the-variants.{Command, Stored, Query, Results, Full}
+use Rattle.basex.specs.declared.Reply.the-variants.{Command, Create, Query, Results, Full}
 use Rattle.basex.specs.Kinds.{findOf, ahead, listed, isFull}
 use Rattle.basex.specs.Texts.{strings}
 use Rattle.basex.specs.Response.{Item, Response, itemBytes, itemsBytes, encode, ItemAllowed, ItemsAllowed, ListAllowed, Published, Stands}
-use Rattle.basex_exact.specs.Calls.{listedOf}
+use Rattle.basex_laws.specs.Calls.{listedOf}
 use Rattle.wire.proofs.Branches.{apart}
 use Rattle.demands.specs.BaseXCalls.{Lendable, Lists, ItemRead, ItemsEnd, itemCalled, withItems, countOf, streamed}
 use Rattle.demands.proofs.BaseXCalls.Taken.{item-taken, item-none}
@@ -19,7 +19,7 @@ use Rattle.demands.proofs.BaseXCalls.Taken.{item-taken, item-none}
 -- what stands ahead of an item is nothing
 no-texts : (reply : Reply) → listed reply ≡ true → (ts : List (List ℕ)) → length ts ≡ ahead reply → ts ≡ []
 no-texts Command l ts h = apart (cc)
-no-texts Stored l ts h = apart (cc)
+no-texts Create l ts h = apart (cc)
 no-texts Query l ts h = apart (cc)
 no-texts Results l [] h = refl
 no-texts Results l (t ∷ ts) h = absurd (omega arith)

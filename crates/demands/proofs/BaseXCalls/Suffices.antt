@@ -20,10 +20,10 @@ use Rattle.basex_request.proofs.Laws as request-laws
 use Rattle.basex_response.specs.Reading as responses
 use Rattle.basex_response.specs.Reading.{allTexts}
 use Rattle.wire.proofs.Branches.{apart}
-use Rattle.basex_exact.proofs.Exactly.{input-suffices}
-use Rattle.basex_exact.proofs.Listed.{OfFields, same}
-use Rattle.basex_exact.proofs.Refusals.{reading-refuses}
-use Rattle.basex_exact.proofs.Responses.{response-exact, one-response}
+use Rattle.basex_laws.proofs.Exactly.{input-suffices}
+use Rattle.basex_laws.proofs.Listed.{OfFields, same}
+use Rattle.basex_laws.proofs.Refusals.{reading-refuses}
+use Rattle.basex_laws.proofs.Responses.{response-exact, one-response}
 use Rattle.demands.specs.Answered.{Answered}
 use Rattle.demands.specs.BaseXCalls.{Lendable, Called, Right, Unread, NoPlace, Decoded, ResponseRead, decodeCalled, readRequestCalled, readResponseCalled}
 use Rattle.demands.proofs.BaseXCalls.Reading.{decode, read-request, read-response}

@@ -11,8 +11,8 @@ use Rattle.basex_string.specs.Strings.{string}
 use Rattle.basex.specs.Texts.{strings}
 use Rattle.basex.specs.Response.{Item, itemBytes, ItemAllowed}
 use Rattle.basex_response.specs.Items.{next, itemAt, uriLength, textLength}
-use Rattle.basex_exact.proofs.Handed.{made}
-use Rattle.basex_exact.proofs.Listed.{next-item, next-end}
+use Rattle.basex_laws.proofs.Handed.{made}
+use Rattle.basex_laws.proofs.Listed.{next-item, next-end}
 use Rattle.demands.specs.Answered.{Answered, answered}
 use Rattle.demands.specs.BaseXCalls.{Lendable, Called, Lists, Decoded, ItemRead, ItemsEnd, decodeCalled, itemCalled}
 use Rattle.demands.proofs.BaseXCalls.Answers.{count-is, in-front}

@@ -6,9 +6,9 @@ use Prim.Native.Nat.{ℕ, zero, suc, _+_, _-_, _≤_}
 use native.Mathlib.Omega.{arith}
 use lib.ListN.{length, take, drop, length-append, length-drop}
 use borrow.Author.Tests.{le-ltb, ne-eqb}
-use Rattle.wire.specs.Bytes.{over}
-use Rattle.wire.proofs.Over.{placed-fits}
-use Rattle.basex_string.specs.Answers.{left}
+use Rattle.wire.specs.Bytes.{splice}
+use Rattle.wire.proofs.Splices.{putAt-fits}
+use Rattle.basex_string.specs.Answers.{outputRead}
 use Rattle.basex.specs.declared.Found.{Found}
 use Rattle.basex.specs.declared.Found.the-variants.{Known, Unknown}
 use Rattle.basex.specs.Kinds.{findOf}
@@ -19,11 +19,11 @@ use Rattle.basex_response.specs.Items.{next, itemAt}
 use Rattle.basex_response.specs.Reading as responses
 use Rattle.basex_response.specs.Reading.{allTexts}
 use Rattle.basex_response.specs.Writing.{itemOf, fullOf}
-use Rattle.basex_exact.specs.Calls.{listedOf, handed, taken}
+use Rattle.basex_laws.specs.Calls.{listedOf, handed, handedNext}
 use Rattle.wire.proofs.Branches.{apart}
-use Rattle.basex_exact.proofs.Exactly.{told-exactly}
-use Rattle.basex_exact.proofs.Laws.{items-all}
-use Rattle.basex_exact.proofs.Responses.{response-exact}
+use Rattle.basex_laws.proofs.Exactly.{told-exactly}
+use Rattle.basex_laws.proofs.Laws.{items-all}
+use Rattle.basex_laws.proofs.Responses.{response-exact}
 use Rattle.basex_c.specs.Codes.{Outcome, lent}
 use Rattle.demands.specs.Answered.{Answered, answered}
 use Rattle.demands.specs.BaseXCalls.{Lendable, Called, telling, Lists, itemNumbers, onward, walked}
@@ -40,7 +40,7 @@ module _ (kind : ℕ) (s : List ℕ) (short : Lendable s) (out told : List ℕ) 
   counted-as n ns h = rw (le-ltb (length told) (length ns) h)
 
   step : (at to : ℕ) (then more : ℕ → ℕ → List Item) → ((a t : ℕ) → then a t ≡ more a t) → (y : ItemAt) → itemAt full at (length s - at) (next full (drop at s)) ≡ y
-      → goes at to then (comes kind s at told y) ≡ taken full out to y more
+      → goes at to then (comes kind s at told y) ≡ handedNext full out to y more
   step at to then more same (item-at.Refused r) e = ap (goes at to then) (refused-as kind s at told r)
   step at to then more same (item-at.End n) e = ap (goes at to then) (counted-as 0 [] (omega arith))
   step at to then more same (item-at.Item id uri text n) e =
@@ -70,11 +70,11 @@ lists-of kind Unknown k e = apart (cc)
 lists-of kind (Known n reply) k e = record { strings = n; reply = reply; known = k; list = e; uris = refl }
 
 pub items-walked : (kind : ℕ) (s : List ℕ) → Lendable s → listedOf (findOf kind) ≡ true → (r : Response) (rest out told : List ℕ) → Stands kind r s rest → length (flatten (allTexts r)) ≤ length out → 3 ≤ length told
-    → walked (suc (length (r .items))) kind s (over out 0 (flatten (allTexts r))) told 0 0 ≡ r .items
+    → walked (suc (length (r .items))) kind s (splice out 0 (flatten (allTexts r))) told 0 0 ≡ r .items
 items-walked kind s short l r rest out told h fits three =
     let full = fullOf (findOf kind) in
     let e = response-exact kind s r rest .1 h in
-    let p : responses.left out (responses.reading kind s) ≡ over out 0 (flatten (allTexts r)) = ap (responses.left out) e ∙ placed-fits out 0 (flatten (allTexts r)) (omega arith) in
-    walks kind s short (over out 0 (flatten (allTexts r))) told three full (lists-of kind (findOf kind) refl l) refl (suc (length (r .items))) 0 0
+    let p : outputRead responses.textBytes out 0 (responses.reading kind s) ≡ splice out 0 (flatten (allTexts r)) = ap (outputRead responses.textBytes out 0) e ∙ putAt-fits out 0 (flatten (allTexts r)) (omega arith) in
+    walks kind s short (splice out 0 (flatten (allTexts r))) told three full (lists-of kind (findOf kind) refl l) refl (suc (length (r .items))) 0 0
     ∙ ap (λ (o : List ℕ). handed (suc (length (r .items))) full s o 0 0) (sym p)
     ∙ items-all kind s r rest out l e fits

@@ -1,20 +1,11 @@
 use borrow.Author.Needs.{needs}
+use Rattle.answer_c.proofs.Codes.{by-code}
 use Rattle.parts_c.proofs.kdr_write_typed_item_url_part.Statement.{statement}
 use Rattle.parts_c.proofs.kdr_write_typed_item_url_part.Tie as tie
-
-write-typed-item-url-part-requires : tie.Need-write-typed-item-url-part-requires
-write-typed-item-url-part-requires c κs = search needs
-
-written-code-requires : tie.Need-written-code-requires
-written-code-requires c κs = search needs
-
-same-length : tie.Need-same-length
-same-length c = search needs
-
-returns : tie.Need-returns
-returns c = rw (← c .before .before .before .write-typed-item-url-part .ensures .0) (c .written-code .ensures, c .before .before .before .write-typed-item-url-part .ensures .1)
 
 pub kdr-write-typed-item-url-part-spec : {M : Type 1} → statement M
 kdr-write-typed-item-url-part-spec =
     tie.close
-    (tie.spec write-typed-item-url-part-requires written-code-requires same-length returns)
+    (tie.spec
+    (λ c κs. search needs) (λ c κs. search needs) (λ c. search needs)
+    (λ c. by-code (c .before .before .before .write-typed-item-url-part .ensures) (c .counted-code .ensures)))

@@ -3,11 +3,5 @@ use borrow.Author.Tests.{le-leb, lt-leb}
 use Rattle.sedna_digits.proofs.is_digit.Statement.{statement}
 use Rattle.sedna_digits.proofs.is_digit.Tie as tie
 
-returns : tie.Need-returns
-returns c = search (needs, le-leb, lt-leb)
-
-returns-2 : tie.Need-returns-2
-returns-2 c = search (needs, le-leb, lt-leb)
-
 pub is-digit-spec : {M : Type 1} → statement M
-is-digit-spec = tie.close (tie.spec returns returns-2)
+is-digit-spec = tie.close (tie.spec (λ c. search (needs, le-leb, lt-leb)) (λ c. search (needs, le-leb, lt-leb)))

@@ -16,7 +16,8 @@ returns-2 : tie.Need-returns-2
 returns-2 c =
     let p = c .before .before .before .before .before .before in
     let a = p .before .before .before .before .before .args in
-    earlier-nanos (a .a) (a .b) (stored-same (a .a .seconds) (a .b .seconds) (p .before .before .before .struct-told .given .0 .1) (p .before .struct-told2 .given .0 .1) (p .if1 .taken)) (c .if3 .taken)
+    earlier-nanos (a .a) (a .b) (stored-same (a .a .seconds) (a .b .seconds) (p .before .before .before .struct-told .given .0 .1) (p .before .struct-told2 .given .0 .1)
+    (p .if1 .taken)) (c .if3 .taken)
 
 returns-3 : tie.Need-returns-3
 returns-3 c =

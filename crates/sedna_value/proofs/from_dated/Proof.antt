@@ -2,17 +2,11 @@ use borrow.Author.Needs.{needs}
 use Rattle.sedna_value.proofs.from_dated.Statement.{statement}
 use Rattle.sedna_value.proofs.from_dated.Tie as tie
 
-enum-known-d : tie.Need-enum-known-d
-enum-known-d c = search needs
-
-enum-known-d-2 : tie.Need-enum-known-d-2
-enum-known-d-2 c = search needs
-
-returns : tie.Need-returns
-returns c = rw (c .before .d .given .1)
-
-returns-2 : tie.Need-returns-2
-returns-2 c = rw (c .before .d2 .given .1)
-
 pub from-dated-spec : {M : Type 1} → statement M
-from-dated-spec = tie.close (tie.spec enum-known-d enum-known-d-2 returns returns-2)
+from-dated-spec =
+    tie.close
+    (tie.spec
+    (λ c. search needs)
+    (λ c. search needs)
+    (λ c. rw (c .before .d .given .1))
+    (λ c. rw (c .before .d2 .given .1)))

@@ -1,95 +1,66 @@
-use mathlib.Core.Bool.{Bool}
 use mathlib.Core.List.{[], _∷_}
-use mathlib.Core.Path.{_≡_, ap, subst, sym, _∙_}
-use Prim.Native.Nat.{ℕ, _+_}
+use Prim.Native.Nat.{_+_}
 use native.Mathlib.Omega.{arith}
 use lib.ListN.{length}
 use Rattle.wire.specs.Bytes.{int}
-use Rattle.wire.proofs.Over.{step, last}
-use Rattle.sedna.specs.declared.Shape.the-variants as shape
-use Rattle.sedna.specs.Allowed.{allowed}
+use Rattle.wire.proofs.Splices.{step, last}
 use Rattle.sedna.specs.Encode.{string, urlBytes, bodyBytes}
 use Rattle.sedna.specs.Message.{Url, Body, message}
-use Rattle.sedna_write.specs.Writing.{judgement, Fits, headed}
-use Rattle.sedna_write.proofs.Puts.{body-ahead, written-counted, item-url-counted, judgement-capped}
+use Rattle.sedna_write.proofs.Puts.{counted, refused, body-ahead, done, item-url-head}
 use borrow.Author.Needs.{needs}
 use Rattle.sedna_write.proofs.write_item_url.Statement.{statement}
 use Rattle.sedna_write.proofs.write_item_url.Tie as tie
 
-item-allowed-requires : tie.Need-item-allowed-requires
-item-allowed-requires c κs = search needs
-
-capped-requires : tie.Need-capped-requires
-capped-requires c κs = search needs
-
-add-n : tie.Need-add-n
-add-n c = search needs
-
-begin-requires : tie.Need-begin-requires
-begin-requires c κs = search needs
-
-enum-known-w : tie.Need-enum-known-w
-enum-known-w c = search needs
-
-enum-known-w-2 : tie.Need-enum-known-w-2
-enum-known-w-2 c = search needs
-
-put-byte-requires : tie.Need-put-byte-requires
-put-byte-requires c κs = search needs
-
-put-byte-requires-2 : tie.Need-put-byte-requires-2
-put-byte-requires-2 c κs = search needs
-
-put-byte-requires-3 : tie.Need-put-byte-requires-3
-put-byte-requires-3 c κs = search needs
-
-put-string-requires : tie.Need-put-string-requires
-put-string-requires c κs = let f = subst (Fits (c .before .before .before .before .before .before .before .before .before .before .before .before .before .before .before .before .before .before .before .before .capped .result + 13) (length (c .before .before .before .before .before .before .before .before .before .before .before .before .before .before .before .before .before .before .before .before .before .before .before .before .before .args .out .now))) (c .before .before .before .before .before .before .before .before .before .before .before .before .before .before .w2 .given .1) (c .before .before .before .before .before .before .before .before .before .before .before .before .before .before .before .before .before .before .begin .ensures .1 .0) in let g = c .before .before .before .before .before .before .before .before .before .before .before .before .before .before .before .before .before .before .before .before .capped .ensures in (omega arith, omega arith)
-
-add-put-string : tie.Need-add-put-string
-add-put-string c = let f = subst (Fits (c .before .before .before .before .before .before .before .before .before .before .before .before .before .before .before .before .before .before .before .before .before .before .before .before .capped .result + 13) (length (c .before .before .before .before .before .before .before .before .before .before .before .before .before .before .before .before .before .before .before .before .before .before .before .before .before .before .before .before .before .args .out .now))) (c .before .before .before .before .before .before .before .before .before .before .before .before .before .before .before .before .before .before .w2 .given .1) (c .before .before .before .before .before .before .before .before .before .before .before .before .before .before .before .before .before .before .before .before .before .before .begin .ensures .1 .0) in let g = c .before .before .before .before .before .before .before .before .before .before .before .before .before .before .before .before .before .before .before .before .before .before .before .before .capped .ensures in omega arith
-
-put-string-requires-2 : tie.Need-put-string-requires-2
-put-string-requires-2 c κs = let f = subst (Fits (c .before .before .before .before .before .before .before .before .before .before .before .before .before .before .before .before .before .before .before .before .before .before .before .before .capped .result + 13) (length (c .before .before .before .before .before .before .before .before .before .before .before .before .before .before .before .before .before .before .before .before .before .before .before .before .before .before .before .before .before .args .out .now))) (c .before .before .before .before .before .before .before .before .before .before .before .before .before .before .before .before .before .before .w2 .given .1) (c .before .before .before .before .before .before .before .before .before .before .before .before .before .before .before .before .before .before .before .before .before .before .begin .ensures .1 .0) in let g = c .before .before .before .before .before .before .before .before .before .before .before .before .before .before .before .before .before .before .before .before .before .before .before .before .capped .ensures in (omega arith, omega arith)
-
-same-length : tie.Need-same-length
-same-length c = search needs
-
-returns : tie.Need-returns
-unfolding allowed
-returns c = (sym (c .before .w .given .1) ∙ c .before .before .before .before .before .begin .ensures .0 ∙ ap (λ (k : ℕ). judgement (c .before .before .before .before .before .before .before .before .before .before .before .before .args .instruction) shape.Item (c .before .before .before .before .before .before .before .before .item-allowed .result) (k + 13) (length (c .before .before .before .before .before .before .before .before .before .before .before .before .args .out .now))) (c .before .before .before .before .before .before .before .capped .ensures) ∙ judgement-capped (c .before .before .before .before .before .before .before .before .before .before .before .before .args .instruction) shape.Item (c .before .before .before .before .before .before .before .before .item-allowed .result) (length (c .before .before .before .before .before .before .before .before .before .before .before .before .args .url .now) + length (c .before .before .before .before .before .before .before .before .before .before .before .before .args .part .now)) 13 (length (c .before .before .before .before .before .before .before .before .before .before .before .before .args .out .now)) ∙ ap (λ (ok : Bool). judgement (c .before .before .before .before .before .before .before .before .before .before .before .before .args .instruction) shape.Item ok (length (c .before .before .before .before .before .before .before .before .before .before .before .before .args .url .now) + length (c .before .before .before .before .before .before .before .before .before .before .before .before .args .part .now) + 13) (length (c .before .before .before .before .before .before .before .before .before .before .before .before .args .out .now))) (c .before .before .before .before .before .before .before .before .item-allowed .ensures) ∙ written-counted (length (c .before .before .before .before .before .before .before .before .before .before .before .before .args .out .now)) (message (c .before .before .before .before .before .before .before .before .before .before .before .before .args .instruction) (Body.item (c .before .before .before .before .before .before .before .before .before .before .before .before .args .class) (c .before .before .before .before .before .before .before .before .before .before .before .before .args .kind) (Url.present (c .before .before .before .before .before .before .before .before .before .before .before .before .args .url .now)) (c .before .before .before .before .before .before .before .before .before .before .before .before .args .part .now))) (length (c .before .before .before .before .before .before .before .before .before .before .before .before .args .url .now) + length (c .before .before .before .before .before .before .before .before .before .before .before .before .args .part .now) + 13) (item-url-counted (c .before .before .before .before .before .before .before .before .before .before .before .before .args .class) (c .before .before .before .before .before .before .before .before .before .before .before .before .args .kind) (c .before .before .before .before .before .before .before .before .before .before .before .before .args .url .now) (c .before .before .before .before .before .before .before .before .before .before .before .before .args .part .now)), c .before .before .before .before .before .begin .ensures .1 .1 ∙ ap (headed (c .before .before .before .before .before .before .before .before .before .before .before .before .args .out .now) (c .before .before .before .before .before .before .before .before .before .before .before .before .args .instruction) (c .before .before .before .before .before .before .before .capped .result + 13)) (c .before .w .given .1))
-
-same-length-2 : tie.Need-same-length-2
-same-length-2 c = search needs
-
 returns-2 : tie.Need-returns-2
-unfolding allowed bodyBytes urlBytes string int
-returns-2 c = let f = subst (Fits (c .before .before .before .before .before .before .before .before .before .before .before .before .before .before .before .before .before .before .before .before .before .before .before .before .before .before .before .capped .result + 13) (length (c .before .before .before .before .before .before .before .before .before .before .before .before .before .before .before .before .before .before .before .before .before .before .before .before .before .before .before .before .before .before .before .before .args .out .now))) (c .before .before .before .before .before .before .before .before .before .before .before .before .before .before .before .before .before .before .before .before .before .w2 .given .1) (c .before .before .before .before .before .before .before .before .before .before .before .before .before .before .before .before .before .before .before .before .before .before .before .before .before .begin .ensures .1 .0) in
-    let b : length (bodyBytes (Body.item (c .before .before .before .before .before .before .before .before .before .before .before .before .before .before .before .before .before .before .before .before .before .before .before .before .before .before .before .before .before .before .before .before .args .class) (c .before .before .before .before .before .before .before .before .before .before .before .before .before .before .before .before .before .before .before .before .before .before .before .before .before .before .before .before .before .before .before .before .args .kind) (Url.present (c .before .before .before .before .before .before .before .before .before .before .before .before .before .before .before .before .before .before .before .before .before .before .before .before .before .before .before .before .before .before .before .before .args .url .now)) (c .before .before .before .before .before .before .before .before .before .before .before .before .before .before .before .before .before .before .before .before .before .before .before .before .before .before .before .before .before .before .before .before .args .part .now))) ≡ c .before .before .before .before .before .before .before .before .before .before .before .before .before .before .before .before .before .before .before .before .before .before .before .before .before .before .before .capped .result + 13 = let g = c .before .before .before .before .before .before .before .before .before .before .before .before .before .before .before .before .before .before .before .before .before .before .before .before .before .before .before .capped .ensures in omega (arith, item-url-counted (c .before .before .before .before .before .before .before .before .before .before .before .before .before .before .before .before .before .before .before .before .before .before .before .before .before .before .before .before .before .before .before .before .args .class) (c .before .before .before .before .before .before .before .before .before .before .before .before .before .before .before .before .before .before .before .before .before .before .before .before .before .before .before .before .before .before .before .before .args .kind) (c .before .before .before .before .before .before .before .before .before .before .before .before .before .before .before .before .before .before .before .before .before .before .before .before .before .before .before .before .before .before .before .before .args .url .now) (c .before .before .before .before .before .before .before .before .before .before .before .before .before .before .before .before .before .before .before .before .before .before .before .before .before .before .before .before .before .before .before .before .args .part .now)) in
-    let z = body-ahead (c .before .before .before .before .before .before .before .before .before .before .before .before .before .before .before .before .before .before .before .before .before .before .before .before .before .before .before .before .before .before .before .before .args .out .now) (message (c .before .before .before .before .before .before .before .before .before .before .before .before .before .before .before .before .before .before .before .before .before .before .before .before .before .before .before .before .before .before .before .before .args .instruction) (Body.item (c .before .before .before .before .before .before .before .before .before .before .before .before .before .before .before .before .before .before .before .before .before .before .before .before .before .before .before .before .before .before .before .before .args .class) (c .before .before .before .before .before .before .before .before .before .before .before .before .before .before .before .before .before .before .before .before .before .before .before .before .before .before .before .before .before .before .before .before .args .kind) (Url.present (c .before .before .before .before .before .before .before .before .before .before .before .before .before .before .before .before .before .before .before .before .before .before .before .before .before .before .before .before .before .before .before .before .args .url .now)) (c .before .before .before .before .before .before .before .before .before .before .before .before .before .before .before .before .before .before .before .before .before .before .before .before .before .before .before .before .before .before .before .before .args .part .now))) (c .before .before .before .before .before .before .before .before .before .before .before .before .before .before .before .before .before .before .before .before .before .before .before .before .before .before .before .capped .result + 13) b _ _ f (c .before .before .before .before .before .before .before .before .before .before .before .before .before .before .before .before .before .before .before .before .before .before .before .before .before .begin .ensures .1 .1 ∙ ap (headed (c .before .before .before .before .before .before .before .before .before .before .before .before .before .before .before .before .before .before .before .before .before .before .before .before .before .before .before .before .before .before .before .before .args .out .now) (c .before .before .before .before .before .before .before .before .before .before .before .before .before .before .before .before .before .before .before .before .before .before .before .before .before .before .before .before .before .before .before .before .args .instruction) (c .before .before .before .before .before .before .before .before .before .before .before .before .before .before .before .before .before .before .before .before .before .before .before .before .before .before .before .capped .result + 13)) (c .before .before .before .before .before .before .before .before .before .before .before .before .before .before .before .before .before .before .before .before .before .w2 .given .1)) in
-    let z0 = step (c .before .before .before .before .before .before .before .before .before .before .before .before .before .before .before .before .before .before .before .before .before .before .before .before .before .before .before .before .before .before .before .before .args .class ∷ []) (9) z (c .before .before .before .before .before .before .before .before .before .before .before .before .before .before .before .before .before .before .put-byte .ensures) (omega arith) in
-    let z1 = step (c .before .before .before .before .before .before .before .before .before .before .before .before .before .before .before .before .before .before .before .before .before .before .before .before .before .before .before .before .before .before .before .before .args .kind ∷ []) (10) z0 (c .before .before .before .before .before .before .before .before .before .before .before .before .before .before .put-byte2 .ensures) (omega arith) in
-    let z2 = step (1 ∷ []) (11) z1 (c .before .before .before .before .before .before .before .before .before .before .put-byte3 .ensures) (omega arith) in
-    let z3 = step (string (c .before .before .before .before .before .before .before .before .before .before .before .before .before .before .before .before .before .before .before .before .before .before .before .before .before .before .before .before .before .before .before .before .args .url .now)) (16 + length (c .before .before .before .before .before .before .before .before .before .before .before .before .before .before .before .before .before .before .before .before .before .before .before .before .before .before .before .before .before .before .before .before .args .url .now)) z2 (c .before .before .before .before .before .before .put-string .ensures) (omega arith) in
-    (sym (c .before .before .before .before .before .before .before .before .before .before .before .before .before .before .before .before .before .before .before .before .before .w2 .given .1) ∙ c .before .before .before .before .before .before .before .before .before .before .before .before .before .before .before .before .before .before .before .before .before .before .before .before .before .begin .ensures .0 ∙ ap (λ (k : ℕ). judgement (c .before .before .before .before .before .before .before .before .before .before .before .before .before .before .before .before .before .before .before .before .before .before .before .before .before .before .before .before .before .before .before .before .args .instruction) shape.Item (c .before .before .before .before .before .before .before .before .before .before .before .before .before .before .before .before .before .before .before .before .before .before .before .before .before .before .before .before .item-allowed .result) (k + 13) (length (c .before .before .before .before .before .before .before .before .before .before .before .before .before .before .before .before .before .before .before .before .before .before .before .before .before .before .before .before .before .before .before .before .args .out .now))) (c .before .before .before .before .before .before .before .before .before .before .before .before .before .before .before .before .before .before .before .before .before .before .before .before .before .before .before .capped .ensures) ∙ judgement-capped (c .before .before .before .before .before .before .before .before .before .before .before .before .before .before .before .before .before .before .before .before .before .before .before .before .before .before .before .before .before .before .before .before .args .instruction) shape.Item (c .before .before .before .before .before .before .before .before .before .before .before .before .before .before .before .before .before .before .before .before .before .before .before .before .before .before .before .before .item-allowed .result) (length (c .before .before .before .before .before .before .before .before .before .before .before .before .before .before .before .before .before .before .before .before .before .before .before .before .before .before .before .before .before .before .before .before .args .url .now) + length (c .before .before .before .before .before .before .before .before .before .before .before .before .before .before .before .before .before .before .before .before .before .before .before .before .before .before .before .before .before .before .before .before .args .part .now)) 13 (length (c .before .before .before .before .before .before .before .before .before .before .before .before .before .before .before .before .before .before .before .before .before .before .before .before .before .before .before .before .before .before .before .before .args .out .now)) ∙ ap (λ (ok : Bool). judgement (c .before .before .before .before .before .before .before .before .before .before .before .before .before .before .before .before .before .before .before .before .before .before .before .before .before .before .before .before .before .before .before .before .args .instruction) shape.Item ok (length (c .before .before .before .before .before .before .before .before .before .before .before .before .before .before .before .before .before .before .before .before .before .before .before .before .before .before .before .before .before .before .before .before .args .url .now) + length (c .before .before .before .before .before .before .before .before .before .before .before .before .before .before .before .before .before .before .before .before .before .before .before .before .before .before .before .before .before .before .before .before .args .part .now) + 13) (length (c .before .before .before .before .before .before .before .before .before .before .before .before .before .before .before .before .before .before .before .before .before .before .before .before .before .before .before .before .before .before .before .before .args .out .now))) (c .before .before .before .before .before .before .before .before .before .before .before .before .before .before .before .before .before .before .before .before .before .before .before .before .before .before .before .before .item-allowed .ensures) ∙ written-counted (length (c .before .before .before .before .before .before .before .before .before .before .before .before .before .before .before .before .before .before .before .before .before .before .before .before .before .before .before .before .before .before .before .before .args .out .now)) (message (c .before .before .before .before .before .before .before .before .before .before .before .before .before .before .before .before .before .before .before .before .before .before .before .before .before .before .before .before .before .before .before .before .args .instruction) (Body.item (c .before .before .before .before .before .before .before .before .before .before .before .before .before .before .before .before .before .before .before .before .before .before .before .before .before .before .before .before .before .before .before .before .args .class) (c .before .before .before .before .before .before .before .before .before .before .before .before .before .before .before .before .before .before .before .before .before .before .before .before .before .before .before .before .before .before .before .before .args .kind) (Url.present (c .before .before .before .before .before .before .before .before .before .before .before .before .before .before .before .before .before .before .before .before .before .before .before .before .before .before .before .before .before .before .before .before .args .url .now)) (c .before .before .before .before .before .before .before .before .before .before .before .before .before .before .before .before .before .before .before .before .before .before .before .before .before .before .before .before .before .before .before .before .args .part .now))) (length (c .before .before .before .before .before .before .before .before .before .before .before .before .before .before .before .before .before .before .before .before .before .before .before .before .before .before .before .before .before .before .before .before .args .url .now) + length (c .before .before .before .before .before .before .before .before .before .before .before .before .before .before .before .before .before .before .before .before .before .before .before .before .before .before .before .before .before .before .before .before .args .part .now) + 13) (item-url-counted (c .before .before .before .before .before .before .before .before .before .before .before .before .before .before .before .before .before .before .before .before .before .before .before .before .before .before .before .before .before .before .before .before .args .class) (c .before .before .before .before .before .before .before .before .before .before .before .before .before .before .before .before .before .before .before .before .before .before .before .before .before .before .before .before .before .before .before .before .args .kind) (c .before .before .before .before .before .before .before .before .before .before .before .before .before .before .before .before .before .before .before .before .before .before .before .before .before .before .before .before .before .before .before .before .args .url .now) (c .before .before .before .before .before .before .before .before .before .before .before .before .before .before .before .before .before .before .before .before .before .before .before .before .before .before .before .before .before .before .before .before .args .part .now)), last z3 (c .before .before .put-string2 .ensures))
+unfolding bodyBytes urlBytes string int
+returns-2 c =
+    let v = c .before .before .before .before .before .before .before .before .before .before .before .before .before .before .before .before .before .before .before .before .before in
+    let q = v .w2 .given .1 in
+    let u = v .before .before .before .before in
+    let a = u .before .before .before .before .before .before .before .args in
+    let h = item-url-head (a .class) (a .kind) (a .url .now) (a .part .now) (u .before .before .before .item-allowed .ensures) (u .before .before .capped .ensures) (u .begin .ensures) in
+    let z = body-ahead (a .out .now) (message (a .instruction) (Body.item (a .class) (a .kind) (Url.present (a .url .now)) (a .part .now))) h q in
+    let z0 = step (a .class ∷ []) 9 z
+    (c .before .before .before .before .before .before .before .before .before .before .before .before .before .before .before .before .before .before .put-byte .ensures)
+    (omega arith) in
+    let z1 = step (a .kind ∷ []) 10 z0 (c .before .before .before .before .before .before .before .before .before .before .before .before .before .before .put-byte2 .ensures) (omega arith) in
+    let z2 = step (1 ∷ []) 11 z1 (c .before .before .before .before .before .before .before .before .before .before .put-byte3 .ensures) (omega arith) in
+    let z3 = step (string (a .url .now)) (16 + length (a .url .now)) z2 (c .before .before .before .before .before .before .put-string .ensures) (omega arith) in
+    done (a .out .now) (message (a .instruction) (Body.item (a .class) (a .kind) (Url.present (a .url .now)) (a .part .now))) h q (last z3 (c .before .before .put-string2 .ensures))
 
 pub write-item-url-spec : {M : Type 1} → statement M
 write-item-url-spec =
     tie.close
     (tie.spec
-    item-allowed-requires
-    capped-requires
-    add-n
-    begin-requires
-    enum-known-w
-    enum-known-w-2
-    put-byte-requires
-    put-byte-requires-2
-    put-byte-requires-3
-    put-string-requires
-    add-put-string
-    put-string-requires-2
-    same-length
-    returns
-    same-length-2
+    (λ c κs. search needs)
+    (λ c κs. search needs)
+    (λ c. search needs)
+    (λ c κs. search needs)
+    (λ c. search needs)
+    (λ c. search needs)
+    (λ c κs. search needs)
+    (λ c κs. search needs)
+    (λ c κs. search needs)
+    (λ c κs.
+    let u = c .before .before .before .before .before .before .before .before .before .before .before .before .before .before in
+    let f = counted (u .before .before .before .before .begin .ensures) (u .w2 .given .1) in
+    let n = u .before .before .before .before .before .before .capped .ensures in
+    (omega arith, omega arith))
+    (λ c.
+    let u = c .before .before .before .before .before .before .before .before .before .before .before .before .before .before .before .before .before .before in
+    let f = counted (u .before .before .before .before .begin .ensures) (u .w2 .given .1) in
+    let n = u .before .before .before .before .before .before .capped .ensures in
+    omega arith)
+    (λ c κs.
+    let u = c .before .before .before .before .before .before .before .before .before .before .before .before .before .before .before .before .before .before in
+    let f = counted (u .before .before .before .before .begin .ensures) (u .w2 .given .1) in
+    let n = u .before .before .before .before .before .before .capped .ensures in
+    (omega arith, omega arith))
+    (λ c. search needs)
+    (λ c.
+    let u = c .before .before .before .before .before in
+    let a = u .before .before .before .before .before .before .before .args in
+    let h = item-url-head (a .class) (a .kind) (a .url .now) (a .part .now) (u .before .before .before .item-allowed .ensures) (u .before .before .capped .ensures) (u .begin .ensures) in
+    refused (a .out .now) (message (a .instruction) (Body.item (a .class) (a .kind) (Url.present (a .url .now)) (a .part .now))) h (c .before .w .given .1))
+    (λ c. search needs)
     returns-2)

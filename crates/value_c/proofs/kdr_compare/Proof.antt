@@ -7,16 +7,10 @@ use borrow.Author.Needs.{needs}
 use Rattle.value_c.proofs.kdr_compare.Statement.{statement}
 use Rattle.value_c.proofs.kdr_compare.Tie as tie
 
-compare-requires : tie.Need-compare-requires
-compare-requires c κs = search needs
-
-order-number-requires : tie.Need-order-number-requires
-order-number-requires c κs = search needs
-
 returns : tie.Need-returns
 returns c =
     rw (← toZ-ofZ {w = w64} (c .before .before .fits .a-seconds), ← toZ-ofZ {w = w64} (c .before .before .fits .b-seconds))
     (order-kept (c .before .compare .result) (c .order-number .ensures) ∙ ap orderNumber (c .before .compare .ensures))
 
 pub kdr-compare-spec : {M : Type 1} → statement M
-kdr-compare-spec = tie.close (tie.spec compare-requires order-number-requires returns)
+kdr-compare-spec = tie.close (tie.spec (λ c κs. search needs) (λ c κs. search needs) returns)

@@ -1,32 +1,28 @@
 use mathlib.Core.List.{[], _∷_}
+use mathlib.Core.Path.{refl}
+use lib.Seq.{sets-eq}
 use mir.Facts.{toZ-ofZ}
 use mir.Syntax.{w64}
-use lib.Seq.{sets-eq}
-use borrow.Author.Needs.{needs}
+use borrow.Author.Needs.{needs, sfits-of}
 use Rattle.value_c.proofs.put.Statement.{statement}
 use Rattle.value_c.proofs.put.Tie as tie
 
-slice-set-from-first : tie.Need-slice-set-from-first
-slice-set-from-first c = search needs
-
-slice-set-from-second : tie.Need-slice-set-from-second
-slice-set-from-second c = search needs
-
-slice-write-real : tie.Need-slice-write-real
-slice-write-real c = search needs
-
-same-length : tie.Need-same-length
-same-length c = search needs
-
-same-length-2 : tie.Need-same-length-2
-same-length-2 c = search needs
-
-returns : tie.Need-returns
-returns c = (
-  rw (toZ-ofZ {w = w64} {z = c .args .first} (c .fits .first), toZ-ofZ {w = w64} {z = c .args .second} (c .fits .second))
-      (sets-eq (c .args .first ∷ c .args .second ∷ []) (c .args .numbers .now) 0 (c .pre .0)),
-  sets-eq (c .args .x ∷ []) (c .args .real .now) 0 (c .pre .1),
-)
-
 pub put-spec : {M : Type 1} → statement M
-put-spec = tie.close (tie.spec slice-set-from-first slice-set-from-second slice-write-real same-length same-length-2 returns)
+put-spec =
+    tie.close
+    (tie.spec
+    (λ c. search needs)
+    (λ c. search needs)
+    (λ c. search needs)
+    (λ c. search needs)
+    (λ c. search needs)
+    (λ c.
+    let d = c .before .before in
+    let n = d .args .n in
+    record {
+      answers = refl;
+      leaves-numbers =
+          rw (toZ-ofZ {w = w64} {z = n .first} (sfits-of (c .before .struct-told .given .1 .0 .1)), toZ-ofZ {w = w64} {z = n .second} (sfits-of (c .struct-told2 .given .1 .1 .0 .1)))
+          (sets-eq (n .first ∷ n .second ∷ []) (d .args .numbers .now) 0 (d .pre .0));
+      leaves-doubles = sets-eq (n .double ∷ []) (d .args .doubles .now) 0 (d .pre .1);
+    }))

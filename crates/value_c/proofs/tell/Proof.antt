@@ -1,121 +1,73 @@
-use mathlib.Core.Path.{refl, _∙_}
+use mathlib.Core.Path.{_≡_, refl, _∙_}
 use native.Mathlib.Omega.{arith}
+use lib.IntN.{pos}
 use mir.Facts.{toZ-ofZ, toZ-pos}
 use mir.Syntax.{w64}
-use Rattle.value_c.proofs.Numbers.{zero-bits, flag-kept, numbers-eq, real-eq}
 use borrow.Author.Needs.{needs, sfits-of}
+use borrow.Author.Tests.{lt-ltb, le-ltb}
+use Rattle.value_c.specs.Values.{flagOf, zero, inNumbers, lentOutcome}
+use Rattle.value_c.proofs.Numbers.{zero-bits, flag-kept, numbers-eq}
 use Rattle.value_c.proofs.tell.Statement.{statement}
 use Rattle.value_c.proofs.tell.Tie as tie
 
-enum-known-value : tie.Need-enum-known-value
-enum-known-value c = search needs
-
-put-requires : tie.Need-put-requires
-put-requires c κs = search needs
-
-enum-known-value-2 : tie.Need-enum-known-value-2
-enum-known-value-2 c = search needs
-
-cast-put : tie.Need-cast-put
-cast-put c = search needs
-
-put-requires-2 : tie.Need-put-requires-2
-put-requires-2 c κs = search needs
-
-enum-known-value-3 : tie.Need-enum-known-value-3
-enum-known-value-3 c = search needs
-
-flag-requires : tie.Need-flag-requires
-flag-requires c κs = search needs
-
-put-requires-3 : tie.Need-put-requires-3
-put-requires-3 c κs = search needs
-
-enum-known-value-4 : tie.Need-enum-known-value-4
-enum-known-value-4 c = search needs
-
-put-requires-4 : tie.Need-put-requires-4
-put-requires-4 c κs = search needs
-
-same-length : tie.Need-same-length
-same-length c = search needs
-
-same-length-2 : tie.Need-same-length-2
-same-length-2 c = search needs
-
-returns : tie.Need-returns
-returns c =
-    rw (c .before .before .before .before .before .before .before .value .given .1) (
-      refl,
-      c .before .before .before .put .ensures .0 ∙ numbers-eq (c .before .before .before .before .before .before .before .before .before .before .args .numbers .now) (toZ-ofZ (sfits-of (c .before .before .before .before .before .before .known-told .given .0 .1))) refl,
-      c .before .before .before .put .ensures .1 ∙ real-eq (c .before .before .before .before .before .before .before .before .before .before .args .real .now) zero-bits,
-    )
-
-same-length-3 : tie.Need-same-length-3
-same-length-3 c = search needs
-
-same-length-4 : tie.Need-same-length-4
-same-length-4 c = search needs
-
-returns-2 : tie.Need-returns-2
-returns-2 c =
-    rw (c .before .before .before .before .before .before .before .before .before .value2 .given .1) (
-      refl,
-      c .before .before .before .put2 .ensures .0 ∙ numbers-eq (c .before .before .before .before .before .before .before .before .before .before .before .before .args .numbers .now) (toZ-ofZ (sfits-of (c .before .before .before .before .struct-told .given .0 .1))) (toZ-pos w64 (omega (arith, c .before .before .before .before .struct-told .given .1 .0 .1))),
-      c .before .before .before .put2 .ensures .1 ∙ real-eq (c .before .before .before .before .before .before .before .before .before .before .before .before .args .real .now) zero-bits,
-    )
-
-same-length-5 : tie.Need-same-length-5
-same-length-5 c = search needs
-
-same-length-6 : tie.Need-same-length-6
-same-length-6 c = search needs
-
-returns-3 : tie.Need-returns-3
-returns-3 c =
-    rw (c .before .before .before .before .before .before .before .before .value3 .given .1) (
-      refl,
-      c .before .before .before .put3 .ensures .0 ∙ numbers-eq (c .before .before .before .before .before .before .before .before .before .before .before .args .numbers .now) (flag-kept (c .before .before .before .before .before .before .before .before .value3 .given .0 .0) (c .before .before .before .before .before .before .flag .ensures)) refl,
-      c .before .before .before .put3 .ensures .1 ∙ real-eq (c .before .before .before .before .before .before .before .before .before .before .before .args .real .now) zero-bits,
-    )
-
-same-length-7 : tie.Need-same-length-7
-same-length-7 c = search needs
-
-same-length-8 : tie.Need-same-length-8
-same-length-8 c = search needs
-
-returns-4 : tie.Need-returns-4
-returns-4 c =
-    rw (c .before .before .before .before .before .before .before .value4 .given .1) (
-      refl,
-      c .before .before .before .put4 .ensures .0,
-      c .before .before .before .put4 .ensures .1,
-    )
-
 pub tell-spec : {M : Type 1} → statement M
+unfolding lentOutcome
 tell-spec =
     tie.close
     (tie.spec
-    enum-known-value
-    put-requires
-    enum-known-value-2
-    cast-put
-    put-requires-2
-    enum-known-value-3
-    flag-requires
-    put-requires-3
-    enum-known-value-4
-    put-requires-4
-    same-length
-    same-length-2
-    returns
-    same-length-3
-    same-length-4
-    returns-2
-    same-length-5
-    same-length-6
-    returns-3
-    same-length-7
-    same-length-8
-    returns-4)
+    (λ c κs. search needs)
+    (λ c. rw (lt-ltb _ _ (c .before .if1 .taken)) (record { answers = c .refusal-code .ensures; leaves-numbers = refl; leaves-doubles = refl }))
+    (λ c κs. search needs)
+    (λ c.
+    rw (le-ltb _ _ (c .before .before .if1 .left), lt-ltb _ _ (c .before .if2 .taken))
+    (record { answers = c .refusal-code2 .ensures; leaves-numbers = refl; leaves-doubles = refl }))
+    (λ c. search needs)
+    (λ c κs. search needs)
+    (λ c κs. search needs)
+    (λ c. search needs)
+    (λ c. search needs)
+    (λ c κs. search needs)
+    (λ c κs. search needs)
+    (λ c. search needs)
+    (λ c κs. search needs)
+    (λ c κs. search needs)
+    (λ c κs. search needs)
+    (λ c. search needs)
+    (λ c κs. search needs)
+    (λ c κs. search needs)
+    (λ c. search needs)
+    (λ c. search needs)
+    (λ c.
+    let w = c .before .before .before .before in
+    let v = w .before .before .before .before .value .given in
+    let room = w .before .before .before .before .before .before in
+    let e : w .in-numbers .result ≡ inNumbers 1 (v .0 .0) (pos 0) zero =
+    w .in-numbers .ensures ∙ numbers-eq 1 (toZ-ofZ (sfits-of (w .before .before .before .known-told .given .0 .1))) refl zero-bits in
+    rw (le-ltb _ _ (room .before .if1 .left), le-ltb _ _ (room .if2 .left), v .1) (rw e at (c .before .before .before .put .ensures)))
+    (λ c. search needs)
+    (λ c. search needs)
+    (λ c.
+    let w = c .before .before .before .before in
+    let v = w .before .before .before .before .before .before .value2 .given in
+    let room = w .before .before .before .before .before .before .before .before in
+    let t = w .before .struct-told .given in
+    let e : w .in-numbers2 .result ≡ inNumbers 2 (v .0 .0 .seconds) (pos (v .0 .0 .nanos)) zero =
+    w .in-numbers2 .ensures ∙ numbers-eq 2 (toZ-ofZ (sfits-of (t .0 .1))) (toZ-pos w64 (omega (arith, t .1 .0 .1))) zero-bits in
+    rw (le-ltb _ _ (room .before .if1 .left), le-ltb _ _ (room .if2 .left), v .1) (rw e at (c .before .before .before .put2 .ensures)))
+    (λ c. search needs)
+    (λ c. search needs)
+    (λ c.
+    let w = c .before .before .before .before in
+    let v = w .before .before .before .before .before .value3 .given in
+    let room = w .before .before .before .before .before .before .before in
+    let e : w .in-numbers3 .result ≡ inNumbers 3 (flagOf (v .0 .0)) (pos 0) zero =
+    w .in-numbers3 .ensures ∙ numbers-eq 3 (flag-kept (v .0 .0) (w .before .flag .ensures)) refl zero-bits in
+    rw (le-ltb _ _ (room .before .if1 .left), le-ltb _ _ (room .if2 .left), v .1) (rw e at (c .before .before .before .put3 .ensures)))
+    (λ c. search needs)
+    (λ c. search needs)
+    (λ c.
+    let w = c .before .before .before .before in
+    let v = w .before .before .before .before .value4 .given in
+    let room = w .before .before .before .before .before .before in
+    let e : w .in-numbers4 .result ≡ inNumbers 4 (pos 0) (pos 0) (v .0 .0) = w .in-numbers4 .ensures in
+    rw (le-ltb _ _ (room .before .if1 .left), le-ltb _ _ (room .if2 .left), v .1) (rw e at (c .before .before .before .put4 .ensures))))

@@ -6,54 +6,32 @@ use lib.Seq.{length-take-le}
 use lib.ListN.{length}
 use borrow.Author.Needs.{needs}
 use Rattle.wire.specs.Fields.{Got}
+use Rattle.basex_string.specs.Answers.{outputRead}
 use Rattle.wire.specs.declared.Refusal.the-variants.{NoRoom}
 use Rattle.basex.specs.Response.{Response}
-use Rattle.basex_response.specs.Reading.{reading, allTexts, answered, left}
+use Rattle.basex_response.specs.Reading.{reading, allTexts, textBytes, answered}
 use Rattle.basex_response.specs.declared.Replied.the-variants.{Refused}
 use Rattle.basex_c.specs.Told.{responseTold}
 use Rattle.basex_c.proofs.Stored.{Judged, exported}
 use Rattle.basex_c.proofs.responses.kdr_basex_read_response.Statement.{statement}
 use Rattle.basex_c.proofs.responses.kdr_basex_read_response.Tie as tie
 
-judged : (n : ℕ) (g : Got Response) → Judged 6 responseTold (λ room. answered n room g) (λ d. left d g)
+judged : (n : ℕ) (g : Got Response) → Judged 6 responseTold (λ room. answered n room g) (λ d. outputRead textBytes d 0 g)
 judged n (Got.refused r) = Judged.never (λ _. refl) (λ _. refl)
 judged n (Got.got p rest) = Judged.fits (Refused NoRoom) _ (length (flatten (allTexts p))) 0 (flatten (allTexts p)) refl refl refl (omega arith) (λ _. refl) (λ _. refl)
-
-usable-requires : tie.Need-usable-requires
-usable-requires c κs = search needs
-
-slice-relend-prefix-read-response : tie.Need-slice-relend-prefix-read-response
-slice-relend-prefix-read-response c = c .before .usable .ensures .1
-
-slice-aggregate-read-response : tie.Need-slice-aggregate-read-response
-slice-aggregate-read-response c = sym (length-take-le (c .before .before .usable .result) (c .before .before .before .before .before .before .args .out .now) (c .before .before .usable .ensures .1))
-
-read-response-requires : tie.Need-read-response-requires
-read-response-requires c κs = search needs
-
-tell-requires : tie.Need-tell-requires
-tell-requires c κs = search needs
-
-same-length : tie.Need-same-length
-same-length c = search needs
-
-same-length-2 : tie.Need-same-length-2
-same-length-2 c = search needs
-
-returns : tie.Need-returns
-returns c =
-    let a = c .before .before .before .before .before .before .before .before .before .before .before .before .args in
-    exported (a .out .now) (a .told .now) (judged (length (a .bytes .now)) (reading (a .kind) (a .bytes .now))) (c .before .before .before .before .before .before .before .before .usable .ensures .0) (c .before .before .before .before .before .read-response .ensures .0) (c .before .before .before .before .before .read-response .ensures .1) (c .before .before .tell .ensures)
 
 pub kdr-basex-read-response-spec : {M : Type 1} → statement M
 kdr-basex-read-response-spec =
     tie.close
     (tie.spec
-    usable-requires
-    slice-relend-prefix-read-response
-    slice-aggregate-read-response
-    read-response-requires
-    tell-requires
-    same-length
-    same-length-2
-    returns)
+    (λ c κs. search needs)
+    (λ c. c .before .usable .ensures .1)
+    (λ c.
+    sym (length-take-le (c .before .before .usable .result) (c .before .before .before .before .before .before .args .out .now) (c .before .before .usable .ensures .1)))
+    (λ c κs. search needs)
+    (λ c κs. search needs)
+    (λ c. search needs)
+    (λ c. search needs)
+    (λ c.
+    let a = c .before .before .before .before .before .before .before .before .before .before .before .before .args in
+    exported (a .out .now) (a .told .now) (judged (length (a .bytes .now)) (reading (a .kind) (a .bytes .now))) (c .before .before .before .before .before .before .before .before .usable .ensures .0) (c .before .before .before .before .before .read-response .ensures .answers) (c .before .before .before .before .before .read-response .ensures .leaves) (c .before .before .tell .ensures)))

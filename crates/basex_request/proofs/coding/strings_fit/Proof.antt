@@ -4,21 +4,10 @@ use native.Mathlib.Omega.{arith}
 use lib.Dec.{leb}
 use borrow.Author.Needs.{needs}
 use Rattle.basex_request.proofs.Puts.{strings-not, counted-down}
-use Rattle.basex_request.proofs.Taken.{four, taken-length}
+use Rattle.basex_request.specs.Calls.{four}
+use Rattle.basex_request.proofs.Taken.{taken-length}
 use Rattle.basex_request.proofs.coding.strings_fit.Statement.{statement}
 use Rattle.basex_request.proofs.coding.strings_fit.Tie as tie
-
-size-requires : tie.Need-size-requires
-size-requires c κs = search needs
-
-size-requires-2 : tie.Need-size-requires-2
-size-requires-2 c κs = search needs
-
-size-requires-3 : tie.Need-size-requires-3
-size-requires-3 c κs = search needs
-
-size-requires-4 : tie.Need-size-requires-4
-size-requires-4 c κs = search needs
 
 returns : tie.Need-returns
 returns c =
@@ -40,9 +29,6 @@ returns-2 c =
     let s = c .before .before .size4 .ensures in
     strings-not (four (a .first .now) (a .second .now) (a .third .now) (a .fourth .now)) (a .n) (a .room) (omega arith)
 
-sub-if3 : tie.Need-sub-if3
-sub-if3 c = search needs
-
 returns-3 : tie.Need-returns-3
 returns-3 c =
     let a = c .before .before .before .before .before .before .before .before .before .before .before .args in
@@ -52,12 +38,6 @@ returns-3 c =
     let r = c .before .before .before .before .size3 .ensures in
     let s = c .before .before .before .size4 .ensures in
     strings-not (four (a .first .now) (a .second .now) (a .third .now) (a .fourth .now)) (a .n) (a .room) (omega arith)
-
-sub-result : tie.Need-sub-result
-sub-result c = search needs
-
-sub-result-2 : tie.Need-sub-result-2
-sub-result-2 c = search needs
 
 returns-4 : tie.Need-returns-4
 returns-4 c =
@@ -74,14 +54,14 @@ pub strings-fit-spec : {M : Type 1} → statement M
 strings-fit-spec =
     tie.close
     (tie.spec
-    size-requires
-    size-requires-2
-    size-requires-3
-    size-requires-4
+    (λ c κs. search needs)
+    (λ c κs. search needs)
+    (λ c κs. search needs)
+    (λ c κs. search needs)
     returns
     returns-2
-    sub-if3
+    (λ c. search needs)
     returns-3
-    sub-result
-    sub-result-2
+    (λ c. search needs)
+    (λ c. search needs)
     returns-4)

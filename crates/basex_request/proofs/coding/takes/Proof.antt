@@ -1,5 +1,6 @@
 use native.Mathlib.Omega.{arith}
-use Rattle.basex_request.proofs.Taken.{four, none-unused, some-unused, first-unused}
+use Rattle.basex_request.specs.Calls.{four}
+use Rattle.basex_request.proofs.Taken.{none-unused, some-unused, first-unused}
 use Rattle.basex_request.proofs.coding.takes.Statement.{statement}
 use Rattle.basex_request.proofs.coding.takes.Tie as tie
 

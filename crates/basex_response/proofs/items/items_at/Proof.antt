@@ -4,7 +4,7 @@ use native.Mathlib.Omega.{arith}
 use lib.ListN.{length, drop}
 use borrow.Author.Needs.{needs}
 use Rattle.basex_response.specs.Items.{list}
-use Rattle.basex_response.specs.Judging.{itemsAt}
+use Rattle.basex_response.specs.inner.Judging.{itemsAt}
 use Rattle.basex_response.proofs.Lists.{item-size}
 use Rattle.basex_response.proofs.Walk.{Here, here, walk-refused, walk-end, walk-item, after, after-none, after-one}
 use Rattle.basex_response.proofs.items.items_at.Statement.{statement}
@@ -16,24 +16,6 @@ Inv-loop full bytes at from₀ count₀ listed₀ from count listed = (count + a
 abbrev μ-loop : tie.MeasureT-loop
 μ-loop full bytes at from₀ count₀ listed₀ from count listed = length bytes - from
 
-loop-holds : tie.Need-loop-holds Inv-loop μ-loop
-loop-holds c = let a = c .before .args in (omega arith, omega arith, after-none (itemsAt (a .at) (length (a .bytes .now) - a .at) (list (a .full) (drop (a .at) (a .bytes .now)))))
-
-item-at-requires : tie.Need-item-at-requires Inv-loop μ-loop
-item-at-requires c κs = search needs
-
-enum-known-r : tie.Need-enum-known-r Inv-loop μ-loop
-enum-known-r c = search needs
-
-returns : tie.Need-returns Inv-loop μ-loop
-returns c =
-    let a = c .before .before .before .before .before .before .args in
-    let l = c .before .before .before .before .loop in
-    sym (l .inv .2 ∙ ap (after (l .count) (l .listed)) (walk-refused (a .full) (a .bytes .now) (l .from) _ (sym (c .before .before .before .item-at .ensures) ∙ c .before .r .given .1)))
-
-enum-known-next : tie.Need-enum-known-next Inv-loop μ-loop
-enum-known-next c = search needs
-
 returns-2 : tie.Need-returns-2 Inv-loop μ-loop
 returns-2 c =
     let a = c .before .before .before .before .before .before .args in
@@ -42,24 +24,9 @@ returns-2 c =
     let m : l .listed + 0 ≡ l .listed = omega arith in
     sym (l .inv .2 ∙ ap (after (l .count) (l .listed)) (walk-end (a .full) (a .bytes .now) (l .from) _ (sym (c .before .before .before .item-at .ensures) ∙ c .before .next .given .1)) ∙ cc (n, m))
 
-enum-known-uri : tie.Need-enum-known-uri Inv-loop μ-loop
-enum-known-uri c = search needs
-
 -- the item that a turn has found
 stood : (c : tie.After-known-told3 Inv-loop μ-loop) → Here (c .before .before .before .before .before .before .args .full) (c .before .before .before .before .before .before .args .bytes .now) (c .before .before .before .before .loop .from) (c .before .uri .given .0 .1 .0) (c .before .uri .given .0 .1 .1 .0) (c .before .uri .given .0 .1 .1 .1 .0)
 stood c = here _ _ _ _ _ _ _ (sym (c .before .before .before .item-at .ensures) ∙ c .before .uri .given .1)
-
-add-count : tie.Need-add-count Inv-loop μ-loop
-add-count c = let h = stood c in let e = h .ends in let s = h .sum in omega (arith, item-size (h .item))
-
-add-listed : tie.Need-add-listed Inv-loop μ-loop
-add-listed c = let h = stood c in let e = h .ends in let s = h .sum in let z = h .sizes in omega (arith, item-size (h .item))
-
-add-listed-2 : tie.Need-add-listed-2 Inv-loop μ-loop
-add-listed-2 c = let h = stood c in let e = h .ends in let s = h .sum in let z = h .sizes in omega (arith, item-size (h .item))
-
-loop-less : tie.Need-loop-less Inv-loop μ-loop
-loop-less c = let h = stood c in let e = h .ends in let s = h .sum in omega (arith, item-size (h .item))
 
 loop-again : tie.Need-loop-again Inv-loop μ-loop
 loop-again c =
@@ -79,15 +46,19 @@ items-at-spec =
     (tie.spec
     Inv-loop
     μ-loop
-    loop-holds
-    item-at-requires
-    enum-known-r
-    returns
-    enum-known-next
+    (λ c.
+    let a = c .before .args in (omega arith, omega arith, after-none (itemsAt (a .at) (length (a .bytes .now) - a .at) (list (a .full) (drop (a .at) (a .bytes .now))))))
+    (λ c κs. search needs)
+    (λ c. search needs)
+    (λ c.
+    let a = c .before .before .before .before .before .before .args in
+    let l = c .before .before .before .before .loop in
+    sym (l .inv .2 ∙ ap (after (l .count) (l .listed)) (walk-refused (a .full) (a .bytes .now) (l .from) _ (sym (c .before .before .before .item-at .ensures) ∙ c .before .r .given .1))))
+    (λ c. search needs)
     returns-2
-    enum-known-uri
-    add-count
-    add-listed
-    add-listed-2
-    loop-less
+    (λ c. search needs)
+    (λ c. let h = stood c in let e = h .ends in let s = h .sum in omega (arith, item-size (h .item)))
+    (λ c. let h = stood c in let e = h .ends in let s = h .sum in let z = h .sizes in omega (arith, item-size (h .item)))
+    (λ c. let h = stood c in let e = h .ends in let s = h .sum in let z = h .sizes in omega (arith, item-size (h .item)))
+    (λ c. let h = stood c in let e = h .ends in let s = h .sum in omega (arith, item-size (h .item)))
     loop-again)

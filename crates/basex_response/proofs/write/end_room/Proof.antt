@@ -3,35 +3,11 @@ use mathlib.Core.List.{_++_}
 use native.Mathlib.Omega.{arith}
 use lib.ListN.{length, length-append}
 use borrow.Author.Needs.{needs}
-use Rattle.basex_response.specs.Writing.{inRoom}
-use Rattle.basex_response.specs.Spelling.{aheadParts, lastParts, endParts}
+use Rattle.wire.specs.Call.{inRoom}
+use Rattle.basex_response.specs.inner.Spelling.{aheadParts, lastParts, endParts}
 use Rattle.basex_response.proofs.Ends.{ahead-size, last-size}
 use Rattle.basex_response.proofs.write.end_room.Statement.{statement}
 use Rattle.basex_response.proofs.write.end_room.Tie as tie
-
-strings-ahead-requires : tie.Need-strings-ahead-requires
-strings-ahead-requires c κs = search needs
-
-size-if-requires : tie.Need-size-if-requires
-size-if-requires c κs = search needs
-
-size-if-requires-2 : tie.Need-size-if-requires-2
-size-if-requires-2 c κs = search needs
-
-is-listed-requires : tie.Need-is-listed-requires
-is-listed-requires c κs = search needs
-
-status-len-requires : tie.Need-status-len-requires
-status-len-requires c κs = search needs
-
-strings-behind-requires : tie.Need-strings-behind-requires
-strings-behind-requires c κs = search needs
-
-size-if-requires-3 : tie.Need-size-if-requires-3
-size-if-requires-3 c κs = search needs
-
-in-room-requires : tie.Need-in-room-requires
-in-room-requires c κs = search needs
 
 returns : tie.Need-returns
 returns c =
@@ -47,18 +23,18 @@ returns c =
     let y = c .before .before .before .before .before .size-if2 .ensures in
     let z = c .before .before .before .status-len .ensures in
     let w = c .before .size-if3 .ensures in
-    c .in-room .ensures ∙ ap (inRoom (a .room) (a .at)) (omega arith)
+    c .parts-in-room .ensures ∙ ap (inRoom (a .room) (a .at)) (omega arith)
 
 pub end-room-spec : {M : Type 1} → statement M
 end-room-spec =
     tie.close
     (tie.spec
-    strings-ahead-requires
-    size-if-requires
-    size-if-requires-2
-    is-listed-requires
-    status-len-requires
-    strings-behind-requires
-    size-if-requires-3
-    in-room-requires
+    (λ c κs. search needs)
+    (λ c κs. search needs)
+    (λ c κs. search needs)
+    (λ c κs. search needs)
+    (λ c κs. search needs)
+    (λ c κs. search needs)
+    (λ c κs. search needs)
+    (λ c κs. search needs)
     returns)

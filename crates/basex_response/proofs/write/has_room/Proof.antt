@@ -6,11 +6,9 @@ use Rattle.basex_response.proofs.Writes.{room-behind}
 use Rattle.basex_response.proofs.write.has_room.Statement.{statement}
 use Rattle.basex_response.proofs.write.has_room.Tie as tie
 
-returns : tie.Need-returns
-returns c = let a = c .before .args in sym (lt-leb (a .at + a .n) (a .room) (omega arith))
-
-returns-2 : tie.Need-returns-2
-returns-2 c = let a = c .before .args in room-behind (a .room) (a .at) (a .n) (c .if1 .left)
-
 pub has-room-spec : {M : Type 1} → statement M
-has-room-spec = tie.close (tie.spec returns returns-2)
+has-room-spec =
+    tie.close
+    (tie.spec
+    (λ c. let a = c .before .args in sym (lt-leb (a .at + a .n) (a .room) (omega arith)))
+    (λ c. let a = c .before .args in room-behind (a .room) (a .at) (a .n) (c .if1 .left)))

@@ -4,10 +4,10 @@ use Prim.Native.Nat.{ℕ, _+_, _≤_}
 use native.Mathlib.Omega.{arith}
 use lib.ListN.{length, length-append}
 use borrow.Author.Needs.{needs}
-use Rattle.wire.specs.Bytes.{placed}
-use Rattle.wire.proofs.Over.{both, placed-not}
-use Rattle.basex_response.specs.Spelling.{aheadParts, lastParts, endParts}
-use Rattle.basex_response.proofs.Writes.{roomy-inv, cramped-inv}
+use Rattle.wire.specs.Call.{putAt}
+use Rattle.wire.proofs.Splices.{both, putAt-not}
+use Rattle.basex_response.specs.inner.Spelling.{aheadParts, lastParts, endParts}
+use Rattle.wire.proofs.Call.{refused-short, counted-there}
 use Rattle.basex_response.proofs.write.put_end.Statement.{statement}
 use Rattle.basex_response.proofs.write.put_end.Tie as tie
 
@@ -26,60 +26,40 @@ same c = rw (c .before .before .strings-ahead .ensures, c .before .is-listed .en
 fits : (c : tie.After-strings-behind) → c .before .before .before .before .before .before .before .before .before .before .before .args .at + length (first c ++ second c) ≤ length (c .before .before .before .before .before .before .before .before .before .before .before .args .out .now)
 fits c =
     let a = c .before .before .before .before .before .before .before .before .before .before .before .args in
-    let f = roomy-inv (length (a .out .now)) (a .at) (length (parts (c .before .before .before .before .before .before .before .before .before .before .before))) _ (sym (c .before .before .before .before .before .before .end-room .ensures) ∙ c .before .before .before .before .judged2 .given .1) .0 in
+    let f = counted-there (length (a .out .now)) (a .at) (length (parts (c .before .before .before .before .before .before .before .before .before .before .before))) _ (sym (c .before .before .before .before .before .before .end-room .ensures) ∙ c .before .before .before .before .room2 .given .1) .1 in
     let s = ap length (same c) in
     omega arith
-
-end-room-requires : tie.Need-end-room-requires
-end-room-requires c κs = search needs
-
-enum-known-judged : tie.Need-enum-known-judged
-enum-known-judged c = search needs
-
-enum-known-judged-2 : tie.Need-enum-known-judged-2
-enum-known-judged-2 c = search needs
-
-strings-ahead-requires : tie.Need-strings-ahead-requires
-strings-ahead-requires c κs = search needs
-
-is-listed-requires : tie.Need-is-listed-requires
-is-listed-requires c κs = search needs
-
-strings-behind-requires : tie.Need-strings-behind-requires
-strings-behind-requires c κs = search needs
-
-put-ahead-requires : tie.Need-put-ahead-requires
-put-ahead-requires c κs = let f = fits (c .before) in omega (arith, length-append (first (c .before)) (second (c .before)))
-
-put-last-requires : tie.Need-put-last-requires
-put-last-requires c κs = let f = fits (c .before .before .before .before .before) in omega (arith, length-append (first (c .before .before .before .before .before)) (second (c .before .before .before .before .before)))
 
 returns : tie.Need-returns
 returns c =
     let a = c .before .before .before .before .before .before .before .before .args in
-    let e = sym (c .before .before .before .end-room .ensures) ∙ c .before .judged .given .1 in
-    (sym (c .before .judged .given .1) ∙ c .before .before .before .end-room .ensures, sym (placed-not (a .out .now) (a .at) (parts (c .before .before .before .before .before .before .before .before)) (cramped-inv (length (a .out .now)) (a .at) (length (parts (c .before .before .before .before .before .before .before .before))) _ e)))
-
-same-length : tie.Need-same-length
-same-length c = search needs
+    let e = sym (c .before .before .before .end-room .ensures) ∙ c .before .room .given .1 in
+    record {
+      answers = sym (c .before .room .given .1) ∙ c .before .before .before .end-room .ensures;
+      leaves = sym (putAt-not (a .out .now) (a .at) (parts (c .before .before .before .before .before .before .before .before)) (refused-short (length (a .out .now)) (a .at) (length (parts (c .before .before .before .before .before .before .before .before))) _ e .1));
+    }
 
 returns-2 : tie.Need-returns-2
 returns-2 c =
     let a = c .before .before .before .before .before .before .before .before .before .before .before .before .before .before .before .before .before .before .before .args in
-    (sym (c .before .before .before .before .before .before .before .before .before .before .before .before .judged2 .given .1) ∙ c .before .before .before .before .before .before .before .before .before .before .before .before .before .before .end-room .ensures, both (a .out .now) (a .at) (first (c .before .before .before .before .before .before .before .before)) (second (c .before .before .before .before .before .before .before .before)) _ (fits (c .before .before .before .before .before .before .before .before)) (c .before .before .before .before .before .before .put-ahead .ensures .1) (c .before .before .put-last .ensures) (c .before .before .before .before .before .before .put-ahead .ensures .0) ∙ ap (placed (a .out .now) (a .at)) (same (c .before .before .before .before .before .before .before .before)))
+    record {
+      answers = sym (c .before .before .before .before .before .before .before .before .before .before .before .before .room2 .given .1) ∙ c .before .before .before .before .before .before .before .before .before .before .before .before .before .before .end-room .ensures;
+      leaves = both (a .out .now) (a .at) (first (c .before .before .before .before .before .before .before .before)) (second (c .before .before .before .before .before .before .before .before)) _ (fits (c .before .before .before .before .before .before .before .before)) (c .before .before .before .before .before .before .put-ahead .ensures .leaves) (c .before .before .put-last .ensures) (c .before .before .before .before .before .before .put-ahead .ensures .answers) ∙ ap (putAt (a .out .now) (a .at)) (same (c .before .before .before .before .before .before .before .before));
+    }
 
 pub put-end-spec : {M : Type 1} → statement M
 put-end-spec =
     tie.close
     (tie.spec
-    end-room-requires
-    enum-known-judged
-    enum-known-judged-2
-    strings-ahead-requires
-    is-listed-requires
-    strings-behind-requires
-    put-ahead-requires
-    put-last-requires
+    (λ c κs. search needs)
+    (λ c. search needs)
+    (λ c. search needs)
+    (λ c κs. search needs)
+    (λ c κs. search needs)
+    (λ c κs. search needs)
+    (λ c κs. let f = fits (c .before) in omega (arith, length-append (first (c .before)) (second (c .before))))
+    (λ c κs.
+    let f = fits (c .before .before .before .before .before) in omega (arith, length-append (first (c .before .before .before .before .before)) (second (c .before .before .before .before .before))))
     returns
-    same-length
+    (λ c. search needs)
     returns-2)

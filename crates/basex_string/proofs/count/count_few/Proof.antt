@@ -4,7 +4,7 @@ use Prim.Native.Nat.{_+_, _-_, _≤_}
 use native.Mathlib.Omega.{arith}
 use lib.ListN.{length, drop}
 use borrow.Author.Needs.{needs}
-use Rattle.basex_string.specs.Answers.{specials}
+use Rattle.basex_string.specs.inner.Runs.{specials}
 use Rattle.basex_string.proofs.Steps.{specials-end, specials-special, specials-plain}
 use Rattle.basex_string.proofs.count.count_few.Statement.{statement}
 use Rattle.basex_string.proofs.count.count_few.Tie as tie
@@ -14,24 +14,6 @@ Inv-loop part n₀ i₀ n i = (n ≤ i) × ((i ≤ length part) × (n + specials
 
 abbrev μ-loop : tie.MeasureT-loop
 μ-loop part n₀ i₀ n i = length part - i
-
-loop-holds : tie.Need-loop-holds Inv-loop μ-loop
-loop-holds c = (search needs, (search needs, omega arith))
-
-shared-slice-read-is-special : tie.Need-shared-slice-read-is-special Inv-loop μ-loop
-shared-slice-read-is-special c = omega arith
-
-is-special-requires : tie.Need-is-special-requires Inv-loop μ-loop
-is-special-requires c κs = search needs
-
-add-n : tie.Need-add-n Inv-loop μ-loop
-add-n c = omega arith
-
-add-i : tie.Need-add-i Inv-loop μ-loop
-add-i c = omega arith
-
-loop-less : tie.Need-loop-less Inv-loop μ-loop
-loop-less c = omega arith
 
 loop-again : tie.Need-loop-again Inv-loop μ-loop
 loop-again c =
@@ -44,24 +26,18 @@ loop-again c =
     (λ w. let k = specials-plain s i h (e ∙ w .0 .left) in omega arith)
     (c .if1 .came)
 
-cast-result : tie.Need-cast-result Inv-loop μ-loop
-cast-result c = omega arith
-
-returns : tie.Need-returns Inv-loop μ-loop
-returns c = let e = specials-end (c .before .before .before .args .part .now) (c .before .loop .i) (c .loop-test .left) in omega arith
-
 pub count-few-spec : {M : Type 1} → statement M
 count-few-spec =
     tie.close
     (tie.spec
     Inv-loop
     μ-loop
-    loop-holds
-    shared-slice-read-is-special
-    is-special-requires
-    add-n
-    add-i
-    loop-less
+    (λ c. (search needs, (search needs, omega arith)))
+    (λ c. omega arith)
+    (λ c κs. search needs)
+    (λ c. omega arith)
+    (λ c. omega arith)
+    (λ c. omega arith)
     loop-again
-    cast-result
-    returns)
+    (λ c. omega arith)
+    (λ c. let e = specials-end (c .before .before .before .args .part .now) (c .before .loop .i) (c .loop-test .left) in omega arith))

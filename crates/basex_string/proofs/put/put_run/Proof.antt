@@ -12,36 +12,6 @@ use Rattle.basex_string.proofs.put.put_run.Tie as tie
 counted : (here room most n left k m : ℕ) → most ≡ min here room → n ≤ here → k ≤ most → n ≡ k + left → m ≡ min (most - k) left → k + m ≡ min room n
 counted here room most n left k m a b d e f = omega arith
 
-sub-least : tie.Need-sub-least
-sub-least c = search needs
-
-sub-least-2 : tie.Need-sub-least-2
-sub-least-2 c = search needs
-
-least-requires : tie.Need-least-requires
-least-requires c κs = search needs
-
-put-blocks-requires : tie.Need-put-blocks-requires
-put-blocks-requires c κs = search needs
-
-add-put-singles : tie.Need-add-put-singles
-add-put-singles c = search needs
-
-add-put-singles-2 : tie.Need-add-put-singles-2
-add-put-singles-2 c = search needs
-
-sub-put-singles : tie.Need-sub-put-singles
-sub-put-singles c = search needs
-
-put-singles-requires : tie.Need-put-singles-requires
-put-singles-requires c κs = search needs
-
-add-result : tie.Need-add-result
-add-result c = search needs
-
-same-length : tie.Need-same-length
-same-length c = search needs
-
 returns : tie.Need-returns
 returns c =
     let a = c .before .before .before .before .before .before .before .before .before .before .before .args in
@@ -56,14 +26,14 @@ pub put-run-spec : {M : Type 1} → statement M
 put-run-spec =
     tie.close
     (tie.spec
-    sub-least
-    sub-least-2
-    least-requires
-    put-blocks-requires
-    add-put-singles
-    add-put-singles-2
-    sub-put-singles
-    put-singles-requires
-    add-result
-    same-length
+    (λ c. search needs)
+    (λ c. search needs)
+    (λ c κs. search needs)
+    (λ c κs. search needs)
+    (λ c. search needs)
+    (λ c. search needs)
+    (λ c. search needs)
+    (λ c κs. search needs)
+    (λ c. search needs)
+    (λ c. search needs)
     returns)

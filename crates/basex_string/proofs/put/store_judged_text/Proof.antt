@@ -17,82 +17,6 @@ abbrev μ-loop : tie.MeasureT-loop
 past : {l i room n k : ℕ} → i < l → k ≡ min room n → 0 < room → 0 < n → l - (i + k) < l - i
 past h e r p = omega arith
 
-loop-holds : tie.Need-loop-holds Inv-loop μ-loop
-loop-holds c =
-    let a = c .before .before .args in
-    (refl, (omega arith, omega arith), going-start (a .bytes .now) (a .out .now) (a .at) (a .to))
-
-shared-slice-read-b : tie.Need-shared-slice-read-b Inv-loop μ-loop
-shared-slice-read-b c = omega arith
-
-add-t13 : tie.Need-add-t13 Inv-loop μ-loop
-add-t13 c = omega arith
-
-same-length : tie.Need-same-length Inv-loop μ-loop
-same-length c = c .before .before .before .loop .inv .0
-
-returns : tie.Need-returns Inv-loop μ-loop
-returns c =
-    let a = c .before .before .before .before .before .before .args in
-    let l = c .before .before .before .loop in
-    let d = length-drop (l .i + 1) (a .bytes .now) in
-    going-end (a .bytes .now) (a .out .now) (a .at) (a .to) (l .i + 1) (l .inv .2) (taken-zero (length (l .out) - l .n) (a .bytes .now) (l .i) (c .before .before .loop-test .taken) (c .if1 .taken)) (omega arith)
-
-same-length-2 : tie.Need-same-length-2 Inv-loop μ-loop
-same-length-2 c = c .before .before .before .before .loop .inv .0
-
-returns-2 : tie.Need-returns-2 Inv-loop μ-loop
-returns-2 c =
-    let a = c .before .before .before .before .before .before .before .args in
-    let l = c .before .before .before .before .loop in
-    let d = length-drop (l .i) (a .bytes .now) in
-    going-end (a .bytes .now) (a .out .now) (a .at) (a .to) (l .i) (l .inv .2) (taken-full (length (l .out) - l .n) (a .bytes .now) (l .i) (c .before .before .before .loop-test .taken) (c .before .if1 .left) (omega arith)) (omega arith)
-
-sub-if4 : tie.Need-sub-if4 Inv-loop μ-loop
-sub-if4 c = omega arith
-
-add-t17 : tie.Need-add-t17 Inv-loop μ-loop
-add-t17 c = omega arith
-
-same-length-3 : tie.Need-same-length-3 Inv-loop μ-loop
-same-length-3 c = c .before .before .before .before .before .before .loop .inv .0
-
-returns-3 : tie.Need-returns-3 Inv-loop μ-loop
-returns-3 c =
-    let a = c .before .before .before .before .before .before .before .before .before .args in
-    let l = c .before .before .before .before .before .before .loop in
-    going-end (a .bytes .now) (a .out .now) (a .at) (a .to) (l .i + 1) (l .inv .2) (taken-cut (length (l .out) - l .n) (a .bytes .now) (l .i) (c .before .before .before .before .before .loop-test .taken) (omega arith) (c .before .if3 .taken) (omega arith)) (omega arith)
-
-add-out : tie.Need-add-out Inv-loop μ-loop
-add-out c = omega arith
-
-shared-slice-read-out : tie.Need-shared-slice-read-out Inv-loop μ-loop
-shared-slice-read-out c = omega arith
-
-slice-write-out : tie.Need-slice-write-out Inv-loop μ-loop
-slice-write-out c = omega arith
-
-add-n : tie.Need-add-n Inv-loop μ-loop
-add-n c = omega arith
-
-add-i : tie.Need-add-i Inv-loop μ-loop
-add-i c = omega arith
-
-loop-less : tie.Need-loop-less Inv-loop μ-loop
-loop-less c = omega arith
-
-loop-again : tie.Need-loop-again Inv-loop μ-loop
-loop-again c =
-    let a = c .before .before .before .before .before .before .before .before .before .before .args in
-    let l = c .before .before .before .before .before .before .before .loop in
-    (simp length-set (l .inv .0), (omega arith, omega arith), going-pair (l .inv .2) (omega arith) (c .before .before .if3 .taken) (omega arith))
-
-put-run-requires : tie.Need-put-run-requires Inv-loop μ-loop
-put-run-requires c κs = (omega arith, omega arith)
-
-add-n-2 : tie.Need-add-n-2 Inv-loop μ-loop
-add-n-2 c = omega arith
-
 add-i-2 : tie.Need-add-i-2 Inv-loop μ-loop
 add-i-2 c =
     let a = c .before .before .before .before .before .before .before .before .before .before .before .before .args in
@@ -100,13 +24,6 @@ add-i-2 c =
     let w = run-within (drop (l .i) (a .bytes .now)) in
     let d = length-drop (l .i) (a .bytes .now) in
     omega arith
-
-loop-less-2 : tie.Need-loop-less-2 Inv-loop μ-loop
-loop-less-2 c =
-    let a = c .before .before .before .before .before .before .before .before .before .before .before .before .args in
-    let l = c .before .before .before .before .before .before .before .before .before .loop in
-    let g = run-goes (a .bytes .now) (l .i) (c .before .before .before .before .before .before .before .before .loop-test .taken) (c .before .before .before .before .before .before .if1 .left) (c .before .before .before .before .if3 .left) in
-    past (c .before .before .before .before .before .before .before .before .loop-test .taken) (c .before .before .put-run .ensures .0) (omega arith) g
 
 loop-again-2 : tie.Need-loop-again-2 Inv-loop μ-loop
 loop-again-2 c =
@@ -117,43 +34,57 @@ loop-again-2 c =
     let p = c .before .before .put-run in
     (p .kept .1 .1 .0 ∙ l .inv .0, (omega arith, omega arith), going-run (l .inv .2) (p .result) (omega arith) (omega arith) (p .ensures .1))
 
-same-length-4 : tie.Need-same-length-4 Inv-loop μ-loop
-same-length-4 c = c .before .loop .inv .0
-
-returns-4 : tie.Need-returns-4 Inv-loop μ-loop
-returns-4 c =
-    let a = c .before .before .before .before .args in
-    let l = c .before .loop in
-    going-end (a .bytes .now) (a .out .now) (a .at) (a .to) (l .i) (l .inv .2) (taken-end (length (l .out) - l .n) (a .bytes .now) (l .i) (c .loop-test .left)) (omega arith)
-
 pub store-judged-text-spec : {M : Type 1} → statement M
 store-judged-text-spec =
     tie.close
     (tie.spec
     Inv-loop
     μ-loop
-    loop-holds
-    shared-slice-read-b
-    add-t13
-    same-length
-    returns
-    same-length-2
-    returns-2
-    sub-if4
-    add-t17
-    same-length-3
-    returns-3
-    add-out
-    shared-slice-read-out
-    slice-write-out
-    add-n
-    add-i
-    loop-less
-    loop-again
-    put-run-requires
-    add-n-2
+    (λ c.
+    let a = c .before .before .args in
+    (refl, (omega arith, omega arith), going-start (a .bytes .now) (a .out .now) (a .at) (a .to)))
+    (λ c. omega arith)
+    (λ c. omega arith)
+    (λ c. c .before .before .before .loop .inv .0)
+    (λ c.
+    let a = c .before .before .before .before .before .before .args in
+    let l = c .before .before .before .loop in
+    let d = length-drop (l .i + 1) (a .bytes .now) in
+    going-end (a .bytes .now) (a .out .now) (a .at) (a .to) (l .i + 1) (l .inv .2) (taken-zero (length (l .out) - l .n) (a .bytes .now) (l .i) (c .before .before .loop-test .taken) (c .if1 .taken)) (omega arith))
+    (λ c. c .before .before .before .before .loop .inv .0)
+    (λ c.
+    let a = c .before .before .before .before .before .before .before .args in
+    let l = c .before .before .before .before .loop in
+    let d = length-drop (l .i) (a .bytes .now) in
+    going-end (a .bytes .now) (a .out .now) (a .at) (a .to) (l .i) (l .inv .2) (taken-full (length (l .out) - l .n) (a .bytes .now) (l .i) (c .before .before .before .loop-test .taken) (c .before .if1 .left) (omega arith)) (omega arith))
+    (λ c. omega arith)
+    (λ c. omega arith)
+    (λ c. c .before .before .before .before .before .before .loop .inv .0)
+    (λ c.
+    let a = c .before .before .before .before .before .before .before .before .before .args in
+    let l = c .before .before .before .before .before .before .loop in
+    going-end (a .bytes .now) (a .out .now) (a .at) (a .to) (l .i + 1) (l .inv .2) (taken-cut (length (l .out) - l .n) (a .bytes .now) (l .i) (c .before .before .before .before .before .loop-test .taken) (omega arith) (c .before .if3 .taken) (omega arith)) (omega arith))
+    (λ c. omega arith)
+    (λ c. omega arith)
+    (λ c. omega arith)
+    (λ c. omega arith)
+    (λ c. omega arith)
+    (λ c. omega arith)
+    (λ c.
+    let a = c .before .before .before .before .before .before .before .before .before .before .args in
+    let l = c .before .before .before .before .before .before .before .loop in
+    (simp length-set (l .inv .0), (omega arith, omega arith), going-pair (l .inv .2) (omega arith) (c .before .before .if3 .taken) (omega arith)))
+    (λ c κs. (omega arith, omega arith))
+    (λ c. omega arith)
     add-i-2
-    loop-less-2
+    (λ c.
+    let a = c .before .before .before .before .before .before .before .before .before .before .before .before .args in
+    let l = c .before .before .before .before .before .before .before .before .before .loop in
+    let g = run-goes (a .bytes .now) (l .i) (c .before .before .before .before .before .before .before .before .loop-test .taken) (c .before .before .before .before .before .before .if1 .left) (c .before .before .before .before .if3 .left) in
+    past (c .before .before .before .before .before .before .before .before .loop-test .taken) (c .before .before .put-run .ensures .0) (omega arith) g)
     loop-again-2
-    same-length-4
-    returns-4)
+    (λ c. c .before .loop .inv .0)
+    (λ c.
+    let a = c .before .before .before .before .args in
+    let l = c .before .loop in
+    going-end (a .bytes .now) (a .out .now) (a .at) (a .to) (l .i) (l .inv .2) (taken-end (length (l .out) - l .n) (a .bytes .now) (l .i) (c .loop-test .left)) (omega arith)))

@@ -10,57 +10,21 @@ Inv-loop words at₀ at = Unit {0}
 abbrev μ-loop : tie.MeasureT-loop
 μ-loop words at₀ at = length words - at
 
-loop-holds : tie.Need-loop-holds Inv-loop μ-loop
-loop-holds c = search needs
-
-sub-front : tie.Need-sub-front Inv-loop μ-loop
-sub-front c = search needs
-
-part-front-start : tie.Need-part-front-start Inv-loop μ-loop
-part-front-start c = search needs
-
-part-front-end : tie.Need-part-front-end Inv-loop μ-loop
-part-front-end c = search needs
-
-front-requires : tie.Need-front-requires Inv-loop μ-loop
-front-requires c κs = search needs
-
-known-requires : tie.Need-known-requires Inv-loop μ-loop
-known-requires c κs = search needs
-
-returns : tie.Need-returns Inv-loop μ-loop
-returns c = search needs
-
-add-at : tie.Need-add-at Inv-loop μ-loop
-add-at c = search needs
-
-add-at-2 : tie.Need-add-at-2 Inv-loop μ-loop
-add-at-2 c = search needs
-
-loop-less : tie.Need-loop-less Inv-loop μ-loop
-loop-less c = search needs
-
-loop-again : tie.Need-loop-again Inv-loop μ-loop
-loop-again c = search needs
-
-returns-2 : tie.Need-returns-2 Inv-loop μ-loop
-returns-2 c = search needs
-
 pub readable-spec : {M : Type 1} → statement M
 readable-spec =
     tie.close
     (tie.spec
     Inv-loop
     μ-loop
-    loop-holds
-    sub-front
-    part-front-start
-    part-front-end
-    front-requires
-    known-requires
-    returns
-    add-at
-    add-at-2
-    loop-less
-    loop-again
-    returns-2)
+    (λ c. search needs)
+    (λ c. search needs)
+    (λ c. search needs)
+    (λ c. search needs)
+    (λ c κs. search needs)
+    (λ c κs. search needs)
+    (λ c. search needs)
+    (λ c. search needs)
+    (λ c. search needs)
+    (λ c. search needs)
+    (λ c. search needs)
+    (λ c. search needs))

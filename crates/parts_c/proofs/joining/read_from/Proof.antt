@@ -7,24 +7,23 @@ use borrow.Author.Needs.{needs}
 use Rattle.parts_c.proofs.joining.read_from.Statement.{statement}
 use Rattle.parts_c.proofs.joining.read_from.Tie as tie
 
-sender-of-requires : tie.Need-sender-of-requires
-sender-of-requires c κs = search needs
-
-enum-told : tie.Need-enum-told
-enum-told c = search needs
-
-enum-known-s : tie.Need-enum-known-s
-enum-known-s c = search needs
-
-read-requires : tie.Need-read-requires
-read-requires c κs = search needs
-
 returns : tie.Need-returns
-returns c = rw (← read-answer (c .before .before .before .before .args .side) (c .before .before .before .before .args .bytes .now), ← c .before .before .sender-of .ensures, c .enum-told .given .1)
+returns c =
+    let p = c .before .before in
+    let a = p .before .before .args in
+    rw (← read-answer (a .side) (a .bytes .now), ← p .sender-of .ensures, c .enum-told .given .1)
 
 returns-2 : tie.Need-returns-2
-returns-2 c = rw (← read-answer (c .before .before .before .before .before .before .args .side) (c .before .before .before .before .before .before .args .bytes .now), ← c .before .before .before .before .sender-of .ensures, c .before .before .s .given .1) (c .read .ensures ∙ ap located (sym (always (reading _ (c .before .before .before .before .before .before .args .bytes .now)))))
+returns-2 c =
+    let p = c .before .before .before .before in
+    let a = p .before .before .args in
+    rw (← read-answer (a .side) (a .bytes .now), ← p .sender-of .ensures, c .before .before .s .given .1)
+    (c .read .ensures ∙ ap located (sym (always (reading _ (a .bytes .now)))))
 
 pub read-from-spec : {M : Type 1} → statement M
 read-from-spec =
-    tie.close (tie.spec sender-of-requires enum-told enum-known-s read-requires returns returns-2)
+    tie.close
+    (tie.spec
+    (λ c κs. search needs) (λ c. search needs) (λ c. search needs) (λ c κs. search needs)
+    returns
+    returns-2)

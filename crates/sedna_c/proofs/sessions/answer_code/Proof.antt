@@ -6,61 +6,36 @@ use borrow.Author.Needs.{needs}
 use Rattle.sedna_c.proofs.sessions.answer_code.Statement.{statement}
 use Rattle.sedna_c.proofs.sessions.answer_code.Tie as tie
 
-enum-known-answer : tie.Need-enum-known-answer
-enum-known-answer c = search needs
-
-refusal-code-requires : tie.Need-refusal-code-requires
-refusal-code-requires c κs = search needs
-
-enum-known-answer-2 : tie.Need-enum-known-answer-2
-enum-known-answer-2 c = search needs
-
-refusal-code-requires-2 : tie.Need-refusal-code-requires-2
-refusal-code-requires-2 c κs = search needs
-
-returns : tie.Need-returns
-returns c = rw (c .before .before .before .answer2 .given .1, lt-ltb _ _ (c .before .if1 .taken)) (c .refusal-code2 .ensures, refl, refl)
-
-record-in-requires : tie.Need-record-in-requires
-record-in-requires c κs = search needs
-
-after-requires : tie.Need-after-requires
-after-requires c κs = search needs
-
-put-requires : tie.Need-put-requires
-put-requires c κs = search needs
-
-store-places-requires : tie.Need-store-places-requires
-store-places-requires c κs = search needs
-
-returns-2 : tie.Need-returns-2
-returns-2 c = rw (c .before .before .answer .given .1) (c .refusal-code .ensures, refl, refl)
-
-same-length : tie.Need-same-length
-same-length c = search needs
-
-same-length-2 : tie.Need-same-length-2
-same-length-2 c = search needs
-
 returns-3 : tie.Need-returns-3
 returns-3 c =
-    let led = rw (c .before .before .before .before .before .before .before .before .before .record-in .ensures) at (c .before .before .before .before .before .before .before .before .after .ensures) in
-    rw (c .before .before .before .before .before .before .before .before .before .before .before .before .before .answer2 .given .1, le-ltb _ _ (c .before .before .before .before .before .before .before .before .before .before .before .if1 .left)) (refl, c .before .before .before .before .before .before .put .ensures ∙ ap (λ (y : Session). recordPut y (c .before .before .before .before .before .before .before .before .before .before .before .before .before .before .before .before .before .args .session .now)) led, c .before .before .store-places .ensures)
+    let v = c .before .before .before .before .before .before .before .before in
+    let u = v .before .before .before in
+    let d = u .before .before .before .before .before .before .args .session .now in
+    let after = rw (v .before .record-in .ensures) at (v .after .ensures) in
+    let room = le-ltb _ _ (u .if1 .left) in
+    rw (u .before .before .answer2 .given .1)
+    (record {
+      tells = rw room (record { answers = refl; leaves = c .before .before .store-places .ensures });
+      leaves-session = rw room (c .before .before .before .before .before .before .put .ensures ∙ ap (λ (y : Session). recordPut y d) after);
+    })
 
 pub answer-code-spec : {M : Type 1} → statement M
 answer-code-spec =
     tie.close
     (tie.spec
-    enum-known-answer
-    refusal-code-requires
-    enum-known-answer-2
-    refusal-code-requires-2
-    returns
-    record-in-requires
-    after-requires
-    put-requires
-    store-places-requires
-    returns-2
-    same-length
-    same-length-2
+    (λ c. search needs)
+    (λ c κs. search needs)
+    (λ c. search needs)
+    (λ c κs. search needs)
+    (λ c.
+    let short = lt-ltb _ _ (c .before .if1 .taken) in
+    rw (c .before .before .before .answer2 .given .1) (record { tells = rw short (record { answers = c .refusal-code2 .ensures; leaves = refl }); leaves-session = rw short }))
+    (λ c κs. search needs)
+    (λ c κs. search needs)
+    (λ c κs. search needs)
+    (λ c κs. search needs)
+    (λ c.
+    rw (c .before .before .answer .given .1) (record { tells = record { answers = c .refusal-code .ensures; leaves = refl }; leaves-session = refl }))
+    (λ c. search needs)
+    (λ c. search needs)
     returns-3)

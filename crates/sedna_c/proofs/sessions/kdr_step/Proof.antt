@@ -6,27 +6,28 @@ use Rattle.sedna_c.proofs.Answers.{step-answer}
 use Rattle.sedna_c.proofs.sessions.kdr_step.Statement.{statement}
 use Rattle.sedna_c.proofs.sessions.kdr_step.Tie as tie
 
-refusal-code-requires : tie.Need-refusal-code-requires
-refusal-code-requires c κs = search needs
-
-returns : tie.Need-returns
-returns c = rw (lt-ltb _ _ (c .before .if1 .taken)) (c .refusal-code .ensures, refl, refl)
-
-take-requires : tie.Need-take-requires
-take-requires c κs = search needs
-
-same-length : tie.Need-same-length
-same-length c = search needs
-
-same-length-2 : tie.Need-same-length-2
-same-length-2 c = search needs
-
 returns-2 : tie.Need-returns-2
 returns-2 c =
-    rw
-    (le-ltb _ _ (c .before .before .before .before .before .before .before .if1 .left), ← step-answer (recordIn (c .before .before .before .before .before .before .before .before .before .before .before .args .session .now)) (c .before .before .before .before .before .before .before .before .before .before .before .args .side) (c .before .before .before .before .before .before .before .before .before .before .before .args .bytes .now) _ refl)
-    (c .before .before .before .before .take .ensures)
+    let v = c .before .before .before .before .before .before .before in
+    let a = v .before .before .before .before .args in
+    let t = c .before .before .before .before .take .ensures in
+    let there = le-ltb _ _ (v .if1 .left) in
+    let same = step-answer (recordIn (a .session .now)) (a .side) (a .bytes .now) _ refl in
+    record {
+      answers = rw (there, ← same) (t .tells .answers);
+      leaves-session = rw (there, ← same) (t .leaves-session);
+      leaves-fields = rw (there, ← same) (t .tells .leaves);
+    }
 
 pub kdr-step-spec : {M : Type 1} → statement M
 kdr-step-spec =
-    tie.close (tie.spec refusal-code-requires returns take-requires same-length same-length-2 returns-2)
+    tie.close
+    (tie.spec
+    (λ c κs. search needs)
+    (λ c.
+    let none = lt-ltb _ _ (c .before .if1 .taken) in
+    record { answers = rw none (c .refusal-code .ensures); leaves-session = rw none; leaves-fields = rw none })
+    (λ c κs. search needs)
+    (λ c. search needs)
+    (λ c. search needs)
+    returns-2)

@@ -2,20 +2,14 @@ use mathlib.Core.Path.{sym, _∙_}
 use Prim.Native.Nat.{_-_}
 use native.Mathlib.Omega.{arith}
 use borrow.Author.Needs.{needs}
-use Rattle.sedna_instant.proofs.Months.{no-leap-day, leap-day, ahead-335}
+use Rattle.sedna_instant.proofs.Days.{no-leap-day, leap-day, ahead-335}
 use Rattle.sedna_instant.proofs.calendar.months_before.Statement.{statement}
 use Rattle.sedna_instant.proofs.calendar.months_before.Tie as tie
-
-days-ahead-requires : tie.Need-days-ahead-requires
-days-ahead-requires c κs = search needs
 
 returns : tie.Need-returns
 returns c =
     let a = c .before .before .args in
     let d = no-leap-day (a .year) (a .month - 1) (omega arith) in omega arith
-
-leap-year-requires : tie.Need-leap-year-requires
-leap-year-requires c κs = search needs
 
 add-result : tie.Need-add-result
 add-result c =
@@ -39,4 +33,4 @@ returns-3 c =
 pub months-before-spec : {M : Type 1} → statement M
 months-before-spec =
     tie.close
-    (tie.spec days-ahead-requires returns leap-year-requires add-result returns-2 returns-3)
+    (tie.spec (λ c κs. search needs) returns (λ c κs. search needs) add-result returns-2 returns-3)

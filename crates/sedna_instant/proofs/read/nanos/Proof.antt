@@ -8,22 +8,18 @@ use Rattle.sedna_instant.proofs.read.nanos.Statement.{statement}
 use Rattle.sedna_instant.proofs.read.nanos.Tie as tie
 
 below : (d : tie.Start) → d .args .f .number * 10 ^ (9 - d .args .f .count) < 1000000000
-below d = filled-up (d .args .f .number) (d .args .f .count) (d .pre .0) (d .pre .1 (d .pre .0))
-
-sub-power : tie.Need-sub-power
-sub-power c = search needs
-
-power-requires : tie.Need-power-requires
-power-requires c κs = search needs
-
-mul-result : tie.Need-mul-result
-mul-result c = rw (power-is (9 - c .before .before .before .args .f .count) _ (omega arith) (c .before .power .ensures)) (record { fits = lt-of-lt-of-le (below (c .before .before .before)) (omega arith) })
-
-cast-result : tie.Need-cast-result
-cast-result c = rw (power-is (9 - c .before .before .before .args .f .count) _ (omega arith) (c .before .power .ensures)) (record { fits = lt-of-lt-of-le (below (c .before .before .before)) (omega arith) })
-
-returns : tie.Need-returns
-returns c = rw (power-is (9 - c .before .before .before .args .f .count) _ (omega arith) (c .before .power .ensures))
+below d = filled-up (d .args .f .number) (d .args .f .count) (d .pre .nine) (d .pre .fits)
 
 pub nanos-spec : {M : Type 1} → statement M
-nanos-spec = tie.close (tie.spec sub-power power-requires mul-result cast-result returns)
+nanos-spec =
+    tie.close
+    (tie.spec
+    (λ c. search needs)
+    (λ c κs. search needs)
+    (λ c.
+    let d = c .before .before .before in
+    rw (power-is (9 - d .args .f .count) _ (omega arith) (c .before .power .ensures)) (record { fits = lt-of-lt-of-le (below d) (omega arith) }))
+    (λ c.
+    let d = c .before .before .before in
+    rw (power-is (9 - d .args .f .count) _ (omega arith) (c .before .power .ensures)) (record { fits = lt-of-lt-of-le (below d) (omega arith) }))
+    (λ c. rw (power-is (9 - c .before .before .before .args .f .count) _ (omega arith) (c .before .power .ensures))))

@@ -3,27 +3,14 @@ use borrow.Author.Tests.{lt-ltb, le-ltb}
 use Rattle.sedna_instant.proofs.read.time_right.Statement.{statement}
 use Rattle.sedna_instant.proofs.read.time_right.Tie as tie
 
-returns : tie.Need-returns
-returns c = search (needs, lt-ltb, le-ltb)
-
-returns-2 : tie.Need-returns-2
-returns-2 c = search (needs, lt-ltb, le-ltb)
-
-returns-3 : tie.Need-returns-3
-returns-3 c = search (needs, lt-ltb, le-ltb)
-
-returns-4 : tie.Need-returns-4
-returns-4 c = search (needs, lt-ltb, le-ltb)
-
-returns-5 : tie.Need-returns-5
-returns-5 c = search (needs, lt-ltb, le-ltb)
-
-returns-6 : tie.Need-returns-6
-returns-6 c = search (needs, lt-ltb, le-ltb)
-
-returns-7 : tie.Need-returns-7
-returns-7 c = search (needs, lt-ltb, le-ltb)
-
 pub time-right-spec : {M : Type 1} → statement M
 time-right-spec =
-    tie.close (tie.spec returns returns-2 returns-3 returns-4 returns-5 returns-6 returns-7)
+    tie.close
+    (tie.spec
+    (λ c. search (needs, lt-ltb, le-ltb))
+    (λ c. search (needs, lt-ltb, le-ltb))
+    (λ c. search (needs, lt-ltb, le-ltb))
+    (λ c. search (needs, lt-ltb, le-ltb))
+    (λ c. search (needs, lt-ltb, le-ltb))
+    (λ c. search (needs, lt-ltb, le-ltb))
+    (λ c. search (needs, lt-ltb, le-ltb)))

@@ -1,41 +1,40 @@
+use Prim.Native.Nat.{_≤_}
 use native.Mathlib.Omega.{arith}
 use mir.Facts.{toZ-ofZ}
-use borrow.Author.Needs.{needs}
 use borrow.Author.Tests.{lt-ltb, le-ltb}
-use Rattle.sedna_instant.proofs.Seconds.{seconds-fit}
-use Rattle.sedna_instant.proofs.Forms.{formed-timed}
+use Rattle.sedna_instant.specs.inner.Bounds.{SecondsFit}
+use Rattle.sedna_instant.proofs.Seconds.{seconds-fit, formed-fit}
 use Rattle.sedna_instant.proofs.read.timed.Statement.{statement}
 use Rattle.sedna_instant.proofs.read.timed.Tie as tie
 
-returns : tie.Need-returns
-returns c = simp (c .if1 .taken)
-
-returns-2 : tie.Need-returns-2
-returns-2 c = simp (c .before .before .if1 .left, lt-ltb _ _ (c .if2 .taken))
-
-returns-3 : tie.Need-returns-3
-returns-3 c = simp (c .before .before .before .before .if1 .left, le-ltb _ _ (c .before .before .if2 .left), lt-ltb _ _ (c .if3 .taken))
-
-returns-4 : tie.Need-returns-4
-returns-4 c = simp (c .before .before .before .before .before .before .if1 .left, le-ltb _ _ (c .before .before .before .before .if2 .left), le-ltb _ _ (c .before .before .if3 .left), lt-ltb _ _ (c .if4 .taken))
-
-seconds-requires : tie.Need-seconds-requires
-seconds-requires c κs =
-    let d = c .before .before .before .before .before .before .before in
-    (omega arith, omega arith, formed-timed (d .args .y) (d .args .c) (d .args .f) (d .pre .0), d .pre .2)
-
-nanos-requires : tie.Need-nanos-requires
-nanos-requires c κs = search needs
+fit : (d : tie.Start) → 1 ≤ d .args .y .number → d .args .y .number ≤ 9999 → SecondsFit (d .args .y .number) (d .args .c) (d .args .shift)
+fit d lo hi = formed-fit (d .args .y) (d .args .c) (d .args .f) (d .args .shift) (d .pre .formed) lo hi (d .pre .zone)
 
 returns-5 : tie.Need-returns-5
 returns-5 c =
     let l = c .before .before in
-    let d = c .before .before .before .before .before .before .before .before .before in
-    let a = d .args in
-    let t = formed-timed (a .y) (a .c) (a .f) (d .pre .0) in
-    simp (l .before .before .before .before .before .before .if1 .left, le-ltb _ _ (l .before .before .before .before .if2 .left), le-ltb _ _ (l .before .before .if3 .left), le-ltb _ _ (l .if4 .left), c .nanos .ensures, c .before .seconds .ensures, toZ-ofZ (seconds-fit (a .y .number) (a .c) (a .shift) (l .before .before .if3 .left) t (d .pre .2)))
+    let y = l .before .before .before .before in
+    simp (
+      y .before .before .if1 .left,
+      le-ltb _ _ (y .if2 .left),
+      le-ltb _ _ (l .before .before .if3 .left),
+      le-ltb _ _ (l .if4 .left),
+      c .nanos .ensures,
+      c .before .seconds .ensures,
+      toZ-ofZ (seconds-fit (fit (y .before .before .before) (y .if2 .left) (l .before .before .if3 .left))),
+    )
 
 pub timed-spec : {M : Type 1} → statement M
 timed-spec =
     tie.close
-    (tie.spec returns returns-2 returns-3 returns-4 seconds-requires nanos-requires returns-5)
+    (tie.spec
+    (λ c. simp (c .if1 .taken))
+    (λ c. simp (c .before .before .if1 .left, lt-ltb _ _ (c .if2 .taken)))
+    (λ c. simp (c .before .before .before .before .if1 .left, le-ltb _ _ (c .before .before .if2 .left), lt-ltb _ _ (c .if3 .taken)))
+    (λ c.
+    let y = c .before .before .before .before in
+    simp (y .before .before .if1 .left, le-ltb _ _ (y .if2 .left), le-ltb _ _ (c .before .before .if3 .left), lt-ltb _ _ (c .if4 .taken)))
+    (λ c κs. fit (c .before .before .before .before .before .before .before) (omega arith) (omega arith))
+    (λ c κs.
+    record { nine = c .before .if4 .left; fits = c .before .before .before .before .before .before .before .before .pre .fraction (c .before .if4 .left) })
+    returns-5)

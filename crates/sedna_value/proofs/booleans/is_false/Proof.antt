@@ -3,47 +3,37 @@ use borrow.Author.Tests.{eq-eqb, ne-eqb}
 use Rattle.sedna_value.proofs.booleans.is_false.Statement.{statement}
 use Rattle.sedna_value.proofs.booleans.is_false.Tie as tie
 
-byte-at-requires : tie.Need-byte-at-requires
-byte-at-requires c κs = search needs
-
-returns : tie.Need-returns
-returns c = search (needs, eq-eqb, ne-eqb, ← c .before .byte-at .ensures)
-
-byte-at-requires-2 : tie.Need-byte-at-requires-2
-byte-at-requires-2 c κs = search needs
-
-returns-2 : tie.Need-returns-2
-returns-2 c = search (needs, eq-eqb, ne-eqb, ← c .before .byte-at2 .ensures, ← c .before .before .before .byte-at .ensures)
-
-byte-at-requires-3 : tie.Need-byte-at-requires-3
-byte-at-requires-3 c κs = search needs
-
-returns-3 : tie.Need-returns-3
-returns-3 c = search (needs, eq-eqb, ne-eqb, ← c .before .byte-at3 .ensures, ← c .before .before .before .byte-at2 .ensures, ← c .before .before .before .before .before .byte-at .ensures)
-
-byte-at-requires-4 : tie.Need-byte-at-requires-4
-byte-at-requires-4 c κs = search needs
-
-returns-4 : tie.Need-returns-4
-returns-4 c = search (needs, eq-eqb, ne-eqb, ← c .before .byte-at4 .ensures, ← c .before .before .before .byte-at3 .ensures, ← c .before .before .before .before .before .byte-at2 .ensures, ← c .before .before .before .before .before .before .before .byte-at .ensures)
-
-byte-at-requires-5 : tie.Need-byte-at-requires-5
-byte-at-requires-5 c κs = search needs
-
-returns-5 : tie.Need-returns-5
-returns-5 c = search (needs, eq-eqb, ne-eqb, ← c .byte-at5 .ensures, ← c .before .before .byte-at4 .ensures, ← c .before .before .before .before .byte-at3 .ensures, ← c .before .before .before .before .before .before .byte-at2 .ensures, ← c .before .before .before .before .before .before .before .before .byte-at .ensures)
-
 pub is-false-spec : {M : Type 1} → statement M
 is-false-spec =
     tie.close
     (tie.spec
-    byte-at-requires
-    returns
-    byte-at-requires-2
-    returns-2
-    byte-at-requires-3
-    returns-3
-    byte-at-requires-4
-    returns-4
-    byte-at-requires-5
-    returns-5)
+    (λ c κs. search needs)
+    (λ c. search (needs, eq-eqb, ne-eqb, ← c .before .byte-at .ensures))
+    (λ c κs. search needs)
+    (λ c. search (needs, eq-eqb, ne-eqb, ← c .before .byte-at2 .ensures, ← c .before .before .before .byte-at .ensures))
+    (λ c κs. search needs)
+    (λ c.
+    search (needs, eq-eqb, ne-eqb, ← c .before .byte-at3 .ensures, ← c .before .before .before .byte-at2 .ensures, ← c .before .before .before .before .before .byte-at .ensures))
+    (λ c κs. search needs)
+    (λ c.
+    search (
+      needs,
+      eq-eqb,
+      ne-eqb,
+      ← c .before .byte-at4 .ensures,
+      ← c .before .before .before .byte-at3 .ensures,
+      ← c .before .before .before .before .before .byte-at2 .ensures,
+      ← c .before .before .before .before .before .before .before .byte-at .ensures,
+    ))
+    (λ c κs. search needs)
+    (λ c.
+    search (
+      needs,
+      eq-eqb,
+      ne-eqb,
+      ← c .byte-at5 .ensures,
+      ← c .before .before .byte-at4 .ensures,
+      ← c .before .before .before .before .byte-at3 .ensures,
+      ← c .before .before .before .before .before .before .byte-at2 .ensures,
+      ← c .before .before .before .before .before .before .before .before .byte-at .ensures,
+    )))

@@ -6,22 +6,6 @@ use Rattle.sedna_value.proofs.Exponents.{upper, lower, no-digits, digit
 use Rattle.sedna_value.proofs.doubles.exponent.Statement.{statement}
 use Rattle.sedna_value.proofs.doubles.exponent.Tie as tie
 
-shared-slice-read-letter : tie.Need-shared-slice-read-letter
-shared-slice-read-letter c = search needs
-
-returns : tie.Need-returns
-unfolding exponentAt
-returns c = search (needs, ne-eqb)
-
-add-behind-sign : tie.Need-add-behind-sign
-add-behind-sign c = search needs
-
-behind-sign-requires : tie.Need-behind-sign-requires
-behind-sign-requires c κs = search needs
-
-digits-requires : tie.Need-digits-requires
-digits-requires c κs = search needs
-
 returns-2 : tie.Need-returns-2
 returns-2 c =
     let r = c .before .before in
@@ -41,13 +25,14 @@ returns-3 c =
     (start .behind-sign .ensures) (r .digits .ensures) (c .before .if3 .left)
 
 pub exponent-spec : {M : Type 1} → statement M
+unfolding exponentAt
 exponent-spec =
     tie.close
     (tie.spec
-    shared-slice-read-letter
-    returns
-    add-behind-sign
-    behind-sign-requires
-    digits-requires
+    (λ c. search needs)
+    (λ c. search (needs, ne-eqb))
+    (λ c. search needs)
+    (λ c κs. search needs)
+    (λ c κs. search needs)
     returns-2
     returns-3)

@@ -1,1 +1,0 @@
-// Laws of the BaseX requests and responses: no code.

@@ -1,1 +1,0 @@
-// A cut's messages are published, and a statement or an item of the grammar: laws only, in proofs/.

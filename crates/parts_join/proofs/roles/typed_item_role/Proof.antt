@@ -1,0 +1,13 @@
+use borrow.Author.Tests.{eq-eqb, ne-eqb}
+use borrow.Author.Needs.{needs}
+use Rattle.parts_join.proofs.roles.typed_item_role.Statement.{statement}
+use Rattle.parts_join.proofs.roles.typed_item_role.Tie as tie
+
+pub typed-item-role-spec : {M : Type 1} → statement M
+typed-item-role-spec =
+    tie.close
+    (tie.spec
+    (λ c. search (needs, eq-eqb))
+    (λ c. search (needs, eq-eqb, ne-eqb))
+    (λ c κs. search needs)
+    (λ c. simp (ne-eqb _ _ (c .before .before .if1 .left), ne-eqb _ _ (c .before .if2 .left), c .item-end .ensures)))

@@ -1,0 +1,10 @@
+pub mod Answering
+pub mod Decimals
+pub mod Example
+pub mod Lines
+pub mod NextLines
+pub mod Prints
+pub mod Replays
+pub mod Rooms
+pub mod Spelt
+pub mod Unchanged

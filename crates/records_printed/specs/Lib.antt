@@ -1,0 +1,9 @@
+pub mod Answer
+pub mod Line
+pub mod Digits
+pub mod Output
+pub mod Transcript
+pub mod NextLine
+pub mod Unchanged
+pub mod Example
+pub mod inner

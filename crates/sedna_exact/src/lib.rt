@@ -1,1 +1,0 @@
-// Reading is exact: accepted are the published messages, each by its own encoding.

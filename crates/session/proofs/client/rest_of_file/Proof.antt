@@ -1,0 +1,11 @@
+use borrow.Author.Tests.{ne-eqb}
+use Rattle.session.proofs.client.rest_of_file.Statement.{statement}
+use Rattle.session.proofs.client.rest_of_file.Tie as tie
+
+pub rest-of-file-spec : {M : Type 1} → statement M
+rest-of-file-spec =
+    tie.close
+    (tie.spec
+    (λ c. rw (c .match .keys1))
+    (λ c. rw (c .match .keys2))
+    (λ c. simp (ne-eqb _ _ (c .match .rest .1), ne-eqb _ _ (c .match .rest .0 .1))))

@@ -1,1 +1,0 @@
-// The session's machine follows the grammar: laws only, in proofs/.

@@ -1,0 +1,1 @@
+// Laws, no code: the session's machine follows the grammar.
