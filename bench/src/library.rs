@@ -1,10 +1,14 @@
-//! The library behind its C functions. A slice passes as pointer and length.
+//! The library behind its C functions, as the Rust crate declares them. A slice passes as pointer
+//! and length.
 
 pub mod basex;
+#[path = "../../bindings/rust/src/raw/exports.rs"]
+mod exports;
 pub mod parts;
 pub mod typed;
 
 use bench::plain::Value;
+use exports::*;
 
 /// How many numbers a message that was read fills.
 pub const FIELDS: usize = 10;
@@ -28,52 +32,6 @@ pub mod field {
 
 /// A refusal is told as this with its number on top.
 const REFUSED: u64 = 1 << 63;
-
-#[rustfmt::skip]
-extern "C" {
-    fn kdr_read(
-        side: u8, bytes: *const u8, len: usize, fields: *mut u64, fields_len: usize,
-    ) -> u64;
-    fn kdr_fresh(session: *mut u8, session_len: usize) -> u64;
-    fn kdr_step(
-        session: *mut u8, session_len: usize, side: u8, bytes: *const u8, len: usize,
-        fields: *mut u64, fields_len: usize,
-    ) -> u64;
-    fn kdr_closed(session: *const u8, session_len: usize) -> u8;
-    fn kdr_turn(session: *const u8, session_len: usize) -> u8;
-    fn kdr_option(
-        bytes: *const u8, len: usize, start: usize, region_len: usize, k: usize,
-        fields: *mut u64, fields_len: usize,
-    ) -> u64;
-    fn kdr_write_empty(out: *mut u8, out_len: usize, instruction: u32) -> u64;
-    fn kdr_write_session(
-        out: *mut u8, out_len: usize, instruction: u32, major: u8, minor: u8,
-        user: *const u8, user_len: usize, database: *const u8, database_len: usize,
-    ) -> u64;
-    fn kdr_write_text(
-        out: *mut u8, out_len: usize, instruction: u32, text: *const u8, text_len: usize,
-    ) -> u64;
-    fn kdr_write_statement(
-        out: *mut u8, out_len: usize, instruction: u32, format: u8,
-        text: *const u8, text_len: usize,
-    ) -> u64;
-    fn kdr_write_coded(
-        out: *mut u8, out_len: usize, instruction: u32, code: u32,
-        text: *const u8, text_len: usize,
-    ) -> u64;
-    fn kdr_write_options(
-        out: *mut u8, out_len: usize, instruction: u32, ids: *const u32, ids_len: usize,
-        lengths: *const usize, lengths_len: usize, values: *const u8, values_len: usize,
-    ) -> u64;
-    fn kdr_write_item(
-        out: *mut u8, out_len: usize, instruction: u32, class: u8, kind: u8,
-        part: *const u8, part_len: usize,
-    ) -> u64;
-    fn kdr_write_item_url(
-        out: *mut u8, out_len: usize, instruction: u32, class: u8, kind: u8,
-        url: *const u8, url_len: usize, part: *const u8, part_len: usize,
-    ) -> u64;
-}
 
 /// The bytes read or written, or the refusal; 0 for one that fits no byte.
 fn answer(code: u64) -> Result<usize, u8> {

@@ -7,25 +7,11 @@ pub use requests::{read_request, write_request, REQUEST};
 pub use responses::{error, item, read_response, write_end, write_item, ITEM, PLACE, RESPONSE};
 
 use super::answer;
+use crate::library::exports::*;
 use bench::plain::basex::Place;
 
 /// How many numbers are told of a string that was judged or decoded: its length, decoded.
 pub const DECODED: usize = 1;
-
-#[rustfmt::skip]
-extern "C" {
-    fn kdr_basex_string_len(text: *const u8, text_len: usize) -> u64;
-    fn kdr_basex_write_string(
-        out: *mut u8, out_len: usize, at: usize, text: *const u8, text_len: usize,
-    ) -> u64;
-    fn kdr_basex_string_at(
-        bytes: *const u8, len: usize, at: usize, told: *mut u64, told_len: usize,
-    ) -> u64;
-    fn kdr_basex_decode(
-        bytes: *const u8, len: usize, at: usize, out: *mut u8, out_len: usize, to: usize,
-        told: *mut u64, told_len: usize,
-    ) -> u64;
-}
 
 /// How many bytes a text takes as a string.
 pub fn string_len(text: &[u8]) -> usize {

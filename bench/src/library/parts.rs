@@ -2,38 +2,12 @@
 //! what an accepted message has done is told as four.
 
 use super::answer;
+use crate::library::exports::*;
 use bench::plain::{Gathered, Gathering};
 
 /// How many numbers an assembly has, and how many are told.
 pub const ASSEMBLY: usize = 7;
 pub const TOLD: usize = 4;
-
-#[rustfmt::skip]
-extern "C" {
-    fn kdr_statement_parts(n: usize) -> u64;
-    fn kdr_item_parts(n: usize) -> u64;
-    fn kdr_typed_item_parts(n: usize) -> u64;
-    fn kdr_typed_item_url_parts(n: usize, url: usize) -> u64;
-    fn kdr_write_statement_part(
-        out: *mut u8, out_len: usize, format: u8, text: *const u8, text_len: usize, k: usize,
-    ) -> u64;
-    fn kdr_write_item_part(
-        out: *mut u8, out_len: usize, text: *const u8, text_len: usize, k: usize,
-    ) -> u64;
-    fn kdr_write_typed_item_part(
-        out: *mut u8, out_len: usize, class: u8, kind: u8,
-        text: *const u8, text_len: usize, k: usize,
-    ) -> u64;
-    fn kdr_write_typed_item_url_part(
-        out: *mut u8, out_len: usize, class: u8, kind: u8, url: *const u8, url_len: usize,
-        text: *const u8, text_len: usize, k: usize,
-    ) -> u64;
-    fn kdr_open(assembly: *mut u64, assembly_len: usize, what: u64) -> u64;
-    fn kdr_join(
-        assembly: *mut u64, assembly_len: usize, buffer: *mut u8, buffer_len: usize,
-        side: u8, bytes: *const u8, len: usize, told: *mut u64, told_len: usize,
-    ) -> u64;
-}
 
 pub fn statement_parts(bytes: usize) -> Result<usize, u8> {
     // SAFETY: numbers alone.

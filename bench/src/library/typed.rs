@@ -1,20 +1,12 @@
 //! Typed values, told as two numbers and a double, and which of two instants is earlier.
 
 use super::answer;
+use crate::library::exports::*;
 use bench::plain::typed::{Instant, Typed};
 
 /// How many numbers are told, and how many doubles.
 pub const NUMBERS: usize = 2;
 pub const REALS: usize = 1;
-
-#[rustfmt::skip]
-extern "C" {
-    fn kdr_value(
-        class: u8, kind: u8, text: *const u8, text_len: usize,
-        numbers: *mut i64, numbers_len: usize, real: *mut f64, real_len: usize,
-    ) -> u64;
-    fn kdr_compare(a_seconds: i64, a_nanos: u32, b_seconds: i64, b_nanos: u32) -> i32;
-}
 
 /// What the value is: 1 a whole number, 2 an instant, 3 a truth, 4 a double.
 pub fn value(

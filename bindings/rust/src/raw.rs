@@ -8,6 +8,7 @@
 //! parameter by parameter.
 
 pub mod basex;
+mod exports;
 pub mod parts;
 pub mod sedna;
 pub mod value;

@@ -1,22 +1,10 @@
 //! Requests.
 
 use super::answer;
+use crate::library::exports::*;
 
 /// How many numbers are told of a request that was read: kind, four lengths.
 pub const REQUEST: usize = 5;
-
-#[rustfmt::skip]
-extern "C" {
-    fn kdr_basex_read_request(
-        bytes: *const u8, len: usize, out: *mut u8, out_len: usize,
-        told: *mut u64, told_len: usize,
-    ) -> u64;
-    fn kdr_basex_write_request(
-        out: *mut u8, out_len: usize, kind: u8, first: *const u8, first_len: usize,
-        second: *const u8, second_len: usize, third: *const u8, third_len: usize,
-        fourth: *const u8, fourth_len: usize,
-    ) -> u64;
-}
 
 /// The request in front of the bytes, its texts decoded to the front of the output; the answer is
 /// the bytes read.

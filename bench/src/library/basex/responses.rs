@@ -1,34 +1,13 @@
 //! Responses.
 
 use super::answer;
+use crate::library::exports::*;
 
 /// How many numbers are told of a response that was read: two lengths, items and their length,
 /// status, the error's length; of an item: id, two lengths; and of an error: start and length.
 pub const RESPONSE: usize = 6;
 pub const ITEM: usize = 3;
 pub const PLACE: usize = 2;
-
-#[rustfmt::skip]
-extern "C" {
-    fn kdr_basex_read_response(
-        kind: u8, bytes: *const u8, len: usize, out: *mut u8, out_len: usize,
-        told: *mut u64, told_len: usize,
-    ) -> u64;
-    fn kdr_basex_error(
-        kind: u8, response: *const u64, response_len: usize, place: *mut u64, place_len: usize,
-    ) -> u64;
-    fn kdr_basex_item(
-        kind: u8, bytes: *const u8, len: usize, at: usize, told: *mut u64, told_len: usize,
-    ) -> u64;
-    fn kdr_basex_write_item(
-        out: *mut u8, out_len: usize, at: usize, kind: u8, id: u8, uri: *const u8, uri_len: usize,
-        text: *const u8, text_len: usize,
-    ) -> u64;
-    fn kdr_basex_write_end(
-        out: *mut u8, out_len: usize, at: usize, kind: u8, first: *const u8, first_len: usize,
-        second: *const u8, second_len: usize, status: u8, error: *const u8, error_len: usize,
-    ) -> u64;
-}
 
 /// The response in front of the bytes, its texts decoded to the front of the output; the answer is
 /// the bytes read.

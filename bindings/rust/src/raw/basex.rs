@@ -1,49 +1,8 @@
 //! `libbasex_c.a`: strings, requests and responses.
 
+use super::exports::*;
 use super::{answer, told};
 use crate::refusal::Refusal;
-
-#[rustfmt::skip]
-extern "C" {
-    fn kdr_basex_string_len(text: *const u8, text_len: usize) -> u64;
-    fn kdr_basex_write_string(
-        out: *mut u8, out_len: usize, at: usize, text: *const u8, text_len: usize,
-    ) -> u64;
-    fn kdr_basex_string_at(
-        bytes: *const u8, len: usize, at: usize, told: *mut u64, told_len: usize,
-    ) -> u64;
-    fn kdr_basex_decode(
-        bytes: *const u8, len: usize, at: usize, out: *mut u8, out_len: usize, to: usize,
-        told: *mut u64, told_len: usize,
-    ) -> u64;
-    fn kdr_basex_read_request(
-        bytes: *const u8, len: usize, out: *mut u8, out_len: usize,
-        told: *mut u64, told_len: usize,
-    ) -> u64;
-    fn kdr_basex_write_request(
-        out: *mut u8, out_len: usize, kind: u8, first: *const u8, first_len: usize,
-        second: *const u8, second_len: usize, third: *const u8, third_len: usize,
-        fourth: *const u8, fourth_len: usize,
-    ) -> u64;
-    fn kdr_basex_read_response(
-        kind: u8, bytes: *const u8, len: usize, out: *mut u8, out_len: usize,
-        told: *mut u64, told_len: usize,
-    ) -> u64;
-    fn kdr_basex_error(
-        kind: u8, response: *const u64, response_len: usize, place: *mut u64, place_len: usize,
-    ) -> u64;
-    fn kdr_basex_item(
-        kind: u8, bytes: *const u8, len: usize, at: usize, told: *mut u64, told_len: usize,
-    ) -> u64;
-    fn kdr_basex_write_item(
-        out: *mut u8, out_len: usize, at: usize, kind: u8, id: u8, uri: *const u8, uri_len: usize,
-        text: *const u8, text_len: usize,
-    ) -> u64;
-    fn kdr_basex_write_end(
-        out: *mut u8, out_len: usize, at: usize, kind: u8, first: *const u8, first_len: usize,
-        second: *const u8, second_len: usize, status: u8, error: *const u8, error_len: usize,
-    ) -> u64;
-}
 
 pub fn string_len(text: &[u8]) -> usize {
     // SAFETY: the text is a slice borrowed for the call.

@@ -1,38 +1,12 @@
 //! `libparts_c.a`: cutting and joining.
 
+use super::exports::*;
 use super::{answer, told};
 use crate::refusal::Refusal;
 
 /// An assembly: what is open (0 nothing, 1 a statement, 2 an item up to 3.0, 3 one of 4.0), whether
 /// a part was taken, the bytes held, whether a part found no room, format, class and type.
 pub type Record = [u64; 7];
-
-#[rustfmt::skip]
-extern "C" {
-    fn kdr_statement_parts(n: usize) -> u64;
-    fn kdr_item_parts(n: usize) -> u64;
-    fn kdr_typed_item_parts(n: usize) -> u64;
-    fn kdr_typed_item_url_parts(n: usize, url: usize) -> u64;
-    fn kdr_write_statement_part(
-        out: *mut u8, out_len: usize, format: u8, text: *const u8, text_len: usize, k: usize,
-    ) -> u64;
-    fn kdr_write_item_part(
-        out: *mut u8, out_len: usize, text: *const u8, text_len: usize, k: usize,
-    ) -> u64;
-    fn kdr_write_typed_item_part(
-        out: *mut u8, out_len: usize, class: u8, kind: u8,
-        text: *const u8, text_len: usize, k: usize,
-    ) -> u64;
-    fn kdr_write_typed_item_url_part(
-        out: *mut u8, out_len: usize, class: u8, kind: u8, url: *const u8, url_len: usize,
-        text: *const u8, text_len: usize, k: usize,
-    ) -> u64;
-    fn kdr_open(assembly: *mut u64, assembly_len: usize, what: u64) -> u64;
-    fn kdr_join(
-        assembly: *mut u64, assembly_len: usize, buffer: *mut u8, buffer_len: usize,
-        side: u8, bytes: *const u8, len: usize, told: *mut u64, told_len: usize,
-    ) -> u64;
-}
 
 pub fn statement_parts(n: usize) -> usize {
     // SAFETY: a number alone.

@@ -1,57 +1,12 @@
 //! `libsedna_c.a`: reading, writing and the session.
 
 use super::answer;
+use super::exports::*;
 use crate::refusal::Refusal;
 
 /// What a message is told as: instruction, shape, two numbers, two places, a count, and whether
 /// there is a URL. Those that its shape does not use are 0.
 pub type Fields = [u64; 10];
-
-#[rustfmt::skip]
-extern "C" {
-    fn kdr_read(
-        side: u8, bytes: *const u8, len: usize, fields: *mut u64, fields_len: usize,
-    ) -> u64;
-    fn kdr_fresh(session: *mut u8, session_len: usize) -> u64;
-    fn kdr_step(
-        session: *mut u8, session_len: usize, side: u8, bytes: *const u8, len: usize,
-        fields: *mut u64, fields_len: usize,
-    ) -> u64;
-    fn kdr_closed(session: *const u8, session_len: usize) -> u8;
-    fn kdr_turn(session: *const u8, session_len: usize) -> u8;
-    fn kdr_option(
-        bytes: *const u8, bytes_len: usize, start: usize, len: usize, k: usize,
-        fields: *mut u64, fields_len: usize,
-    ) -> u64;
-    fn kdr_write_empty(out: *mut u8, out_len: usize, instruction: u32) -> u64;
-    fn kdr_write_session(
-        out: *mut u8, out_len: usize, instruction: u32, major: u8, minor: u8,
-        user: *const u8, user_len: usize, database: *const u8, database_len: usize,
-    ) -> u64;
-    fn kdr_write_text(
-        out: *mut u8, out_len: usize, instruction: u32, text: *const u8, text_len: usize,
-    ) -> u64;
-    fn kdr_write_statement(
-        out: *mut u8, out_len: usize, instruction: u32, format: u8,
-        text: *const u8, text_len: usize,
-    ) -> u64;
-    fn kdr_write_coded(
-        out: *mut u8, out_len: usize, instruction: u32, code: u32,
-        text: *const u8, text_len: usize,
-    ) -> u64;
-    fn kdr_write_options(
-        out: *mut u8, out_len: usize, instruction: u32, ids: *const u32, ids_len: usize,
-        lengths: *const usize, lengths_len: usize, values: *const u8, values_len: usize,
-    ) -> u64;
-    fn kdr_write_item(
-        out: *mut u8, out_len: usize, instruction: u32, class: u8, kind: u8,
-        part: *const u8, part_len: usize,
-    ) -> u64;
-    fn kdr_write_item_url(
-        out: *mut u8, out_len: usize, instruction: u32, class: u8, kind: u8,
-        url: *const u8, url_len: usize, part: *const u8, part_len: usize,
-    ) -> u64;
-}
 
 /// The bytes read; an accepted message fills the fields.
 pub fn read(side: u8, bytes: &[u8], fields: &mut Fields) -> Result<usize, Refusal> {

@@ -1,18 +1,8 @@
 //! `libvalue_c.a`: typed values and the order of instants.
 
 use super::answer;
+use super::exports::*;
 use crate::refusal::Refusal;
-
-#[rustfmt::skip]
-extern "C" {
-    fn kdr_value(
-        class: u8, kind: u8, text: *const u8, text_len: usize,
-        numbers: *mut i64, numbers_len: usize, real: *mut f64, real_len: usize,
-    ) -> u64;
-    fn kdr_compare(
-        a_seconds: i64, a_nanoseconds: u32, b_seconds: i64, b_nanoseconds: u32,
-    ) -> i32;
-}
 
 /// What the value is (1 a whole number, 2 an instant, 3 a yes or no, 4 a double), its two numbers
 /// and its double. Those that it does not use are 0.
