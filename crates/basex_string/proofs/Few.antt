@@ -31,7 +31,15 @@ one-at-most false = omega arith
 pub midst-start : (s : List ℕ) (from most : ℕ) (d : List ℕ) (to : ℕ) → most ≡ length (textRead (reading (drop from s))) → to + most ≤ length d
     → Midst s from most (splice d to (textRead (reading (drop from s)))) d to 0 from false
 midst-start s from most d to e f =
-    record { past = omega arith; goes = omega arith; more = omega arith; adds = omega arith; back = (λ (p : false ≡ true). cc); ahead = ahead-from d to (textRead (reading (drop from s))) (omega arith) }
+    record {
+      past = omega arith;
+      goes = omega arith;
+      more = omega arith;
+      adds = omega arith;
+      back = (λ (p : false ≡ true). cc);
+      ahead = ahead-from d to (textRead (reading (drop from s)))
+          (omega arith);
+    }
 
 module _ {s : List ℕ} {from most : ℕ} {t d : List ℕ} {to n i : ℕ} {e : Bool} (m : Midst s from most t d to n i e) where
   -- it ends where no text is left
@@ -62,7 +70,15 @@ module _ {s : List ℕ} {from most : ℕ} {t d : List ℕ} {to n i : ℕ} {e : B
         let x = ap (λ (f : Bool). textRead (scan f (drop i s))) p ∙ ap textRead (escape s i midst-here q) in
         let l = ap length x in
         let j : i + 1 - 1 ≡ i = omega arith in
-        record { past = omega arith; goes = omega arith; more = omega arith; adds = omega arith; back = (λ (w : true ≡ true). ap (λ (k : ℕ). textRead (reading (drop k s))) j ∙ ap textRead (escape s i midst-here q)); ahead = subst (Ahead t (set d (to + n) (getD s i 0)) (to + n)) x (ahead-set (getD s i 0) (m .ahead) left) }
+        record {
+          past = omega arith;
+          goes = omega arith;
+          more = omega arith;
+          adds = omega arith;
+          back = (λ (w : true ≡ true). ap (λ (k : ℕ). textRead (reading (drop k s))) j ∙ ap textRead
+              (escape s i midst-here q));
+          ahead = subst (Ahead t (set d (to + n) (getD s i 0)) (to + n)) x (ahead-set (getD s i 0) (m .ahead) left);
+        }
 
     byte-step : opening (getD s i 0) e ≡ false → Midst s from most t (set d (to + n) (getD s i 0)) to (n + 1) (i + 1) false
     byte-step o =

@@ -110,8 +110,12 @@ module _ (b : List ℕ) (at len next : ℕ) where
       let n : length b - length rest ≡ next = cc in
       let l : length s ≡ len = cc in
       let f = next-field b at s rest e .0 in
-      let z = string-length s in
-      (omega arith, omega arith, (λ (q : next - 1 - at ≡ len). ap (take len) (exact (drop at b) s rest e ∙ ap (λ (m : List ℕ). m ++ rest) (string-clean s (omega arith)) ∙ append-assoc s (0 ∷ []) rest) ∙ take-at s (0 ∷ rest) len l))
+      let z = string-length s in (
+        omega arith,
+        omega arith,
+        (λ (q : next - 1 - at ≡ len). ap (take len)
+            (exact (drop at b) s rest e ∙ ap (λ (m : List ℕ). m ++ rest) (string-clean s (omega arith)) ∙ append-assoc s (0 ∷ []) rest) ∙ take-at s (0 ∷ rest) len l),
+      )
 
   module _ (p : located (length b) (reading (drop at b)) ≡ string-at.At len next) where
     pub located-next : (at < next) × (next ≤ length b)

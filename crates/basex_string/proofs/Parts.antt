@@ -37,9 +37,11 @@ over-same d k a b h f =
     let l : length (take k d) ≡ k = length-take-le k d (omega arith) in
     let e : length p ≡ k + length a = length-append (take k d) a ∙ ap (λ (n : ℕ). n + length a) l in
     let m : k + length a + (length b - length a) ≡ k + length b = omega arith in
-    ap (λ (x : List ℕ). x ++ b ++ drop (k + length b) (p ++ drop (k + length a) d)) (ap (take k) (append-assoc (take k d) a (drop (k + length a) d)) ∙ take-at (take k d) (a ++ drop (k + length a) d) k l)
+    ap (λ (x : List ℕ). x ++ b ++ drop (k + length b) (p ++ drop (k + length a) d))
+    (ap (take k) (append-assoc (take k d) a (drop (k + length a) d)) ∙ take-at (take k d) (a ++ drop (k + length a) d) k l)
     ∙ ap (λ (x : List ℕ). take k d ++ b ++ x)
-    (ap (λ (n : ℕ). drop n (p ++ drop (k + length a) d)) (sym m) ∙ sym (drop-drop (length b - length a) (k + length a) (p ++ drop (k + length a) d)) ∙ ap (drop (length b - length a)) (drop-at p (drop (k + length a) d) (k + length a) e) ∙ drop-drop (length b - length a) (k + length a) d ∙ ap (λ (n : ℕ). drop n d) m)
+    (ap (λ (n : ℕ). drop n (p ++ drop (k + length a) d)) (sym m) ∙ sym (drop-drop (length b - length a) (k + length a) (p ++ drop (k + length a) d)) ∙ ap (drop (length b - length a))
+    (drop-at p (drop (k + length a) d) (k + length a) e) ∙ drop-drop (length b - length a) (k + length a) d ∙ ap (λ (n : ℕ). drop n d) m)
 
 -- a byte is stored where more is ahead
 pub ahead-set : {t d text : List ℕ} {at : ℕ} (x : ℕ) → Ahead t d at text → 0 < length text → Ahead t (set d at x) at text

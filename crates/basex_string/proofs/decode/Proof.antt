@@ -20,7 +20,8 @@ decode-spec =
     (λ c. search needs)
     (λ c κs.
     let a = c .before .before .before .before .before .before .before .before .before .before .args in
-    let h = counted-there (length (a .out .now)) (a .to) (c .before .before .before .before .before .len .given .0 .0) _ (sym (c .before .before .before .in-room .ensures) ∙ c .before .enum-told .given .1) .1 in
+    let h = counted-there (length (a .out .now)) (a .to) (c .before .before .before .before .before .len .given .0 .0) _
+    (sym (c .before .before .before .in-room .ensures) ∙ c .before .enum-told .given .1) .1 in
     (sym (c .before .before .before .before .before .before .before .string-at .ensures) ∙ c .before .before .before .before .before .len .given .1, omega arith))
     (λ c.
     let a = c .before .before .before .before .before .before .args in
@@ -32,6 +33,7 @@ decode-spec =
     (λ c. search needs)
     (λ c.
     let a = c .before .before .before .before .before .before .before .before .before .before .before .before .before .args in
-    let e = sym (c .before .before .before .before .before .before .before .before .before .before .string-at .ensures) ∙ c .before .before .before .before .before .before .before .before .len .given .1 in
+    let e = sym (c .before .before .before .before .before .before .before .before .before .before .string-at .ensures)
+    ∙ c .before .before .before .before .before .before .before .before .len .given .1 in
     let h = sym (c .before .before .before .before .before .before .in-room .ensures) ∙ c .before .before .before .before .enum-told .given .1 in
     stored-decoded _ (a .to) (a .out .now) (reading (drop (a .at) (a .bytes .now))) e h (c .before .before .store-text .ensures)))

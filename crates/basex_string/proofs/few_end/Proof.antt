@@ -31,11 +31,13 @@ few-end-spec =
     (λ c. omega arith)
     (λ c.
     let s = c .before .before .before .before .before .before .before .args .s .now in
-    let e = run-plain s (c .before .before .before .before .before .loop .at) (c .before .before .before .before .loop-test .taken) (sym (c .before .before .is-special .ensures) ∙ c .before .if1 .left) in
+    let e = run-plain s (c .before .before .before .before .before .loop .at) (c .before .before .before .before .loop-test .taken)
+    (sym (c .before .before .is-special .ensures) ∙ c .before .if1 .left) in
     omega arith)
     (λ c. omega arith)
     (λ c.
     let s = c .before .before .before .before .before .before .before .args .s .now in
-    let e = run-plain s (c .before .before .before .before .before .loop .at) (c .before .before .before .before .loop-test .taken) (sym (c .before .before .is-special .ensures) ∙ c .before .if1 .left) in
+    let e = run-plain s (c .before .before .before .before .before .loop .at) (c .before .before .before .before .loop-test .taken)
+    (sym (c .before .before .is-special .ensures) ∙ c .before .if1 .left) in
     omega arith)
     (λ c. let e = run-none (c .before .before .before .args .s .now) (c .before .loop .at) (c .loop-test .left) in omega arith))

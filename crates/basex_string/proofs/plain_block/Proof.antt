@@ -20,8 +20,12 @@ loop-again : tie.Need-loop-again Inv-loop μ-loop
 loop-again c = (
   omega arith,
   ⊎-elim
-      (λ w. w .1 ∙ block-special (c .before .before .before .before .before .before .args .s .now) (c .before .before .before .before .before .before .args .at) (c .before .before .before .before .loop .i) (c .before .before .before .before .loop .plain) (omega arith) (c .before .before .before .before .loop .inv .1) (sym (c .before .is-special .ensures) ∙ w .0 .taken))
-      (λ w. w .1 ∙ block-plain (c .before .before .before .before .before .before .args .s .now) (c .before .before .before .before .before .before .args .at) (c .before .before .before .before .loop .i) (c .before .before .before .before .loop .plain) (omega arith) (c .before .before .before .before .loop .inv .1) (sym (c .before .is-special .ensures) ∙ w .0 .left))
+      (λ w. w .1 ∙ block-special (c .before .before .before .before .before .before .args .s .now) (c .before .before .before .before .before .before .args .at)
+      (c .before .before .before .before .loop .i) (c .before .before .before .before .loop .plain) (omega arith) (c .before .before .before .before .loop .inv .1)
+      (sym (c .before .is-special .ensures) ∙ w .0 .taken))
+      (λ w. w .1 ∙ block-plain (c .before .before .before .before .before .before .args .s .now) (c .before .before .before .before .before .before .args .at)
+      (c .before .before .before .before .loop .i) (c .before .before .before .before .loop .plain) (omega arith) (c .before .before .before .before .loop .inv .1)
+      (sym (c .before .is-special .ensures) ∙ w .0 .left))
       (c .if1 .came),
 )
 

@@ -25,7 +25,8 @@ returns c =
     let r = c .before .before .before .opens .result in
     let q : c .before .before .if1 .count ≡ c .before .before .before .before .before .before .loop .count + if r 0 1 =
     ⊎-elim (λ w. rw (not-true r (w .0 .taken)) (w .1)) (λ w. rw (not-false r (w .0 .left)) (let e = w .1 in omega arith)) (c .before .before .if1 .came) in
-    let m = midst-next (c .before .before .before .before .before .before .loop .inv .1 .1) (c .before .before .before .before .before .loop-test .taken) (c .before .before .before .opens .ensures) q in
+    let m = midst-next (c .before .before .before .before .before .before .loop .inv .1 .1) (c .before .before .before .before .before .loop-test .taken)
+    (c .before .before .before .opens .ensures) q in
     let t = midst-stop m (c .before .before .before .before .before .before .loop .i + 1 - 1) (m .back (c .if3 .taken)) in
     let z = one-at-most r in
     record { some = omega arith; adds = t .0; makes = t .1 }
@@ -35,8 +36,11 @@ returns-2 c =
     let r = c .before .before .before .opens .result in
     let q : c .before .before .if1 .count ≡ c .before .before .before .before .before .before .loop .count + if r 0 1 =
     ⊎-elim (λ w. rw (not-true r (w .0 .taken)) (w .1)) (λ w. rw (not-false r (w .0 .left)) (let e = w .1 in omega arith)) (c .before .before .if1 .came) in
-    let m = midst-next (c .before .before .before .before .before .before .loop .inv .1 .1) (c .before .before .before .before .before .loop-test .taken) (c .before .before .before .opens .ensures) q in
-    let t = midst-stop m (c .before .before .before .before .before .before .loop .i + 1) (ap (λ (e : Bool). textRead (scan e (drop (c .before .before .before .before .before .before .loop .i + 1) (c .before .before .before .before .before .before .before .before .before .args .bytes .now)))) (sym (c .if3 .left))) in
+    let m = midst-next (c .before .before .before .before .before .before .loop .inv .1 .1) (c .before .before .before .before .before .loop-test .taken)
+    (c .before .before .before .opens .ensures) q in
+    let t = midst-stop m (c .before .before .before .before .before .before .loop .i + 1)
+    (ap (λ (e : Bool). textRead (scan e (drop (c .before .before .before .before .before .before .loop .i + 1)
+    (c .before .before .before .before .before .before .before .before .before .args .bytes .now)))) (sym (c .if3 .left))) in
     let z = one-at-most r in
     record { some = omega arith; adds = t .0; makes = t .1 }
 
@@ -75,5 +79,6 @@ put-few-spec =
     (λ c. c .before .loop .inv .0)
     (λ c.
     let m = c .before .loop .inv .1 .1 in
-    let t = midst-stop m (c .before .loop .i) (ap (λ (e : Bool). textRead (scan e (drop (c .before .loop .i) (c .before .before .before .before .args .bytes .now)))) (sym (midst-end m (c .loop-test .left)))) in
+    let t = midst-stop m (c .before .loop .i)
+    (ap (λ (e : Bool). textRead (scan e (drop (c .before .loop .i) (c .before .before .before .before .args .bytes .now)))) (sym (midst-end m (c .loop-test .left)))) in
     record { some = omega arith; adds = t .0; makes = t .1 }))

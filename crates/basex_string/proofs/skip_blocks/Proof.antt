@@ -27,7 +27,10 @@ skip-blocks-spec =
     (λ c κs. search needs)
     (λ c. omega arith)
     (λ c. omega arith)
-    (λ c.
-    (omega arith, skip-next (c .before .before .before .before .before .before .args .s .now) (c .before .before .before .before .before .before .args .from) (c .before .before .before .loop .at) 16 (omega arith) (omega arith) (leb-true _ _ (sym (c .before .plain-block .ensures) ∙ c .if2 .taken))))
+    (λ c. (
+      omega arith,
+      skip-next (c .before .before .before .before .before .before .args .s .now) (c .before .before .before .before .before .before .args .from) (c .before .before .before .loop .at) 16
+          (omega arith) (omega arith) (leb-true _ _ (sym (c .before .plain-block .ensures) ∙ c .if2 .taken)),
+    ))
     (λ c. omega arith)
     (λ c. omega arith))

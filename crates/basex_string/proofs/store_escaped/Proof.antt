@@ -50,8 +50,15 @@ loop-again-2 c =
     let v = c .before .before .before .before .before .before .before .before .before .before .loop .inv in
     let x : List ℕ = take (r - i) (drop i s) in
     let z = run-size s i r (omega arith) (omega arith) (omega arith) in
-    let t = run-text s i r (omega arith) (omega arith) (omega arith) in
-    (c .before .before .put-bytes .kept .0 ∙ v .0, (omega arith, ahead-run x t (c .before .before .before .before .before .before .before .before .before .before .before .before .before .args .to + (c .before .before .before .before .before .before .before .before .before .before .loop .n + (r - i))) (v .1 .1) (c .before .before .put-bytes .ensures) (omega arith)))
+    let t = run-text s i r (omega arith) (omega arith) (omega arith) in (
+      c .before .before .put-bytes .kept .0 ∙ v .0,
+      (
+        omega arith,
+        ahead-run x t
+            (c .before .before .before .before .before .before .before .before .before .before .before .before .before .args .to +
+            (c .before .before .before .before .before .before .before .before .before .before .loop .n + (r - i))) (v .1 .1) (c .before .before .put-bytes .ensures) (omega arith),
+      ),
+    )
 
 pub store-escaped-spec : {M : Type 1} → statement M
 store-escaped-spec =
@@ -59,8 +66,14 @@ store-escaped-spec =
     (tie.spec
     Inv-loop
     μ-loop
-    (λ c.
-    (refl, (omega arith, ahead-from (c .before .before .args .out .now) (c .before .before .args .to) (textRead (reading (drop (c .before .before .args .at) (c .before .before .args .bytes .now)))) (omega arith))))
+    (λ c. (
+      refl,
+      (
+        omega arith,
+        ahead-from (c .before .before .args .out .now) (c .before .before .args .to) (textRead (reading (drop (c .before .before .args .at) (c .before .before .args .bytes .now))))
+            (omega arith),
+      ),
+    ))
     (λ c. text-here (c .before .before .before .before .before .args .bytes .now) (c .before .before .loop .i) (omega arith))
     (λ c. omega arith)
     (λ c. omega arith)

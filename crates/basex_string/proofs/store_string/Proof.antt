@@ -34,8 +34,15 @@ loop-again c =
     let s = c .before .before .before .before .before .before .before .before .before .before .before .args .text .now in
     let i = c .before .before .before .before .before .before .before .before .loop .i in
     let k = leb-true 16 (run (drop i s)) (sym (c .before .before .before .before .before .before .plain-block .ensures) ∙ c .before .before .before .before .before .if1 .taken) in
-    let z = run-size s i (i + 16) (omega arith) (omega arith) (omega arith) in
-    (c .before .before .put-bytes .kept .0 ∙ c .before .before .before .before .before .before .before .before .loop .inv .0, (omega arith, ahead-run (take (i + 16 - i) (drop i s)) (run-string s i (i + 16) (omega arith) (omega arith)) (c .before .before .before .before .before .before .before .before .loop .to + 16) (c .before .before .before .before .before .before .before .before .loop .inv .1 .1) (c .before .before .put-bytes .ensures) (omega arith)))
+    let z = run-size s i (i + 16) (omega arith) (omega arith) (omega arith) in (
+      c .before .before .put-bytes .kept .0 ∙ c .before .before .before .before .before .before .before .before .loop .inv .0,
+      (
+        omega arith,
+        ahead-run (take (i + 16 - i) (drop i s))
+            (run-string s i (i + 16) (omega arith) (omega arith)) (c .before .before .before .before .before .before .before .before .loop .to + 16)
+            (c .before .before .before .before .before .before .before .before .loop .inv .1 .1) (c .before .before .put-bytes .ensures) (omega arith),
+      ),
+    )
 
 returns : tie.Need-returns Inv-loop μ-loop
 returns c =
@@ -43,7 +50,9 @@ returns c =
     let i = c .before .before .before .before .before .before .loop .i in
     let l = length-drop i s in
     let a = c .before .before .before .before .before .before .loop .inv .1 .1 in
-    last a (c .before .before .store-few2 .ensures .1 ∙ ap (λ (x : _). splice (c .before .before .before .before .before .before .loop .out) (c .before .before .before .before .before .before .loop .to) (string x)) (take-all (length s - i) (drop i s) (omega arith)) ∙ sym (putAt-fits _ _ _ (a .fits)))
+    last a (c .before .before .store-few2 .ensures .1 ∙ ap
+    (λ (x : _). splice (c .before .before .before .before .before .before .loop .out) (c .before .before .before .before .before .before .loop .to) (string x))
+    (take-all (length s - i) (drop i s) (omega arith)) ∙ sym (putAt-fits _ _ _ (a .fits)))
 
 pub store-string-spec : {M : Type 1} → statement M
 store-string-spec =
@@ -74,8 +83,15 @@ store-string-spec =
     (λ c. omega arith)
     (λ c.
     let s = c .before .before .before .before .before .before .before .before .before .before .before .args .text .now in
-    let i = c .before .before .before .before .before .before .before .before .loop .i in
-    (c .before .before .store-few .kept .0 ∙ c .before .before .before .before .before .before .before .before .loop .inv .0, (omega arith, ahead-part s i (i + 16) (c .before .before .store-few .result) (omega arith) (c .before .before .before .before .before .before .before .before .loop .inv .1 .1) (c .before .before .store-few .ensures .1) (c .before .before .store-few .ensures .0))))
+    let i = c .before .before .before .before .before .before .before .before .loop .i in (
+      c .before .before .store-few .kept .0 ∙ c .before .before .before .before .before .before .before .before .loop .inv .0,
+      (
+        omega arith,
+        ahead-part s i (i + 16)
+            (c .before .before .store-few .result) (omega arith) (c .before .before .before .before .before .before .before .before .loop .inv .1 .1) (c .before .before .store-few .ensures .1)
+            (c .before .before .store-few .ensures .0),
+      ),
+    ))
     (λ c. omega arith)
     (λ c. omega arith)
     (λ c. omega arith)

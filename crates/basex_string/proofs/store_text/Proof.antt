@@ -28,7 +28,8 @@ returns c =
     let m = a .next - 1 - a .at in
     let d = length-drop (a .at) (a .bytes .now) in
     let l = length-take-le m (drop (a .at) (a .bytes .now)) (omega arith) in
-    c .before .before .put-bytes .ensures ∙ putAt-fits (a .out .now) (a .to) (take m (drop (a .at) (a .bytes .now))) (omega arith) ∙ ap (splice (a .out .now) (a .to)) (located-plain (a .bytes .now) (a .at) (a .len) (a .next) p (c .before .before .before .before .before .if1 .taken))
+    c .before .before .put-bytes .ensures ∙ putAt-fits (a .out .now) (a .to) (take m (drop (a .at) (a .bytes .now))) (omega arith) ∙ ap (splice (a .out .now) (a .to))
+    (located-plain (a .bytes .now) (a .at) (a .len) (a .next) p (c .before .before .before .before .before .if1 .taken))
 
 pub store-text-spec : {M : Type 1} → statement M
 store-text-spec =

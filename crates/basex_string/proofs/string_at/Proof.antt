@@ -38,8 +38,11 @@ loop-again-2 c =
     let s = c .before .before .before .before .before .before .before .args .bytes .now in
     let i = c .before .before .before .before .before .loop .i in
     let g = run-goes s i (c .before .before .before .before .loop-test .taken) (c .before .before .if1 .left) (c .before .if2 .left) in
-    let f = run-fits s i (c .run-end .result) (omega arith) (omega arith) (omega arith) in
-    (omega arith, c .before .before .before .before .before .loop .inv .1 ∙ run-seen s i (c .run-end .result) (omega arith) (omega arith) (length s) (c .before .before .before .before .before .loop .len) (omega arith))
+    let f = run-fits s i (c .run-end .result) (omega arith) (omega arith) (omega arith) in (
+      omega arith,
+      c .before .before .before .before .before .loop .inv .1 ∙ run-seen s i (c .run-end .result) (omega arith) (omega arith) (length s)
+          (c .before .before .before .before .before .loop .len) (omega arith),
+    )
 
 pub string-at-spec : {M : Type 1} → statement M
 string-at-spec =
@@ -53,11 +56,13 @@ string-at-spec =
     (λ c.
     let s = c .before .before .before .before .before .args .bytes .now in
     let i = c .before .before .before .loop .i in
-    sym (c .before .before .before .loop .inv .1 ∙ ap (seen (length s) (c .before .before .before .loop .len)) (reading-zero s i (c .before .before .loop-test .taken) (c .if1 .taken)) ∙ seen-at s (c .before .before .before .loop .len) i (c .before .before .loop-test .taken)))
+    sym (c .before .before .before .loop .inv .1 ∙ ap (seen (length s) (c .before .before .before .loop .len)) (reading-zero s i (c .before .before .loop-test .taken) (c .if1 .taken)) ∙ seen-at s
+    (c .before .before .before .loop .len) i (c .before .before .loop-test .taken)))
     (λ c. omega arith)
     (λ c.
     let s = c .before .before .before .before .before .before .before .args .bytes .now in
-    sym (c .before .before .before .before .before .loop .inv .1 ∙ ap (seen (length s) (c .before .before .before .before .before .loop .len)) (reading-cut s (c .before .before .before .before .before .loop .i) (c .before .before .before .before .loop-test .taken) (c .before .if2 .taken) (omega arith))))
+    sym (c .before .before .before .before .before .loop .inv .1 ∙ ap (seen (length s) (c .before .before .before .before .before .loop .len))
+    (reading-cut s (c .before .before .before .before .before .loop .i) (c .before .before .before .before .loop-test .taken) (c .before .if2 .taken) (omega arith))))
     (λ c. omega arith)
     (λ c. omega arith)
     (λ c κs. search needs)
@@ -71,11 +76,16 @@ string-at-spec =
     (λ c.
     let s = c .before .before .before .before .before .before .before .before .before .before .before .args .bytes .now in
     let i = c .before .before .before .before .before .before .before .before .before .loop .i in
-    let e = pairs-more s i (omega arith) (c .before .before .before .before .before .if2 .taken) (sym (c .before .before .is-special .ensures) ∙ c .before .if4 .taken) in
-    (omega arith, c .before .before .before .before .before .before .before .before .before .loop .inv .1 ∙ pairs-seen (length s) (c .before .before .before .before .before .before .before .before .before .loop .len) s i (1 + c .pairs-at .result) (omega arith)))
+    let e = pairs-more s i (omega arith) (c .before .before .before .before .before .if2 .taken) (sym (c .before .before .is-special .ensures) ∙ c .before .if4 .taken) in (
+      omega arith,
+      c .before .before .before .before .before .before .before .before .before .loop .inv .1 ∙ pairs-seen (length s)
+          (c .before .before .before .before .before .before .before .before .before .loop .len) s i (1 + c .pairs-at .result) (omega arith),
+    ))
     (λ c.
     let s = c .before .before .before .before .before .before .before .before .before .before .args .bytes .now in
-    sym (c .before .before .before .before .before .before .before .before .loop .inv .1 ∙ ap (seen (length s) (c .before .before .before .before .before .before .before .before .loop .len)) (reading-bad s (c .before .before .before .before .before .before .before .before .loop .i) (c .before .before .before .before .before .before .before .loop-test .taken) (c .before .before .before .before .if2 .taken) (omega arith) (sym (c .before .is-special .ensures) ∙ c .if4 .left))))
+    sym (c .before .before .before .before .before .before .before .before .loop .inv .1 ∙ ap (seen (length s) (c .before .before .before .before .before .before .before .before .loop .len))
+    (reading-bad s (c .before .before .before .before .before .before .before .before .loop .i) (c .before .before .before .before .before .before .before .loop-test .taken)
+    (c .before .before .before .before .if2 .taken) (omega arith) (sym (c .before .is-special .ensures) ∙ c .if4 .left))))
     (λ c κs. search needs)
     (λ c. omega arith)
     add-len-2

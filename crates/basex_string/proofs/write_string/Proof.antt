@@ -13,7 +13,8 @@ use Rattle.basex_string.proofs.write_string.Tie as tie
 store-plain-requires : tie.Need-store-plain-requires
 store-plain-requires c κs =
     let a = c .before .before .before .before .before .before .before .before .before .args in
-    let h = counted-there (length (a .out .now)) (a .at) (c .before .before .before .before .before .before .string-len .result) (c .before .before .before .n .given .0 .0) (sym (c .before .before .before .before .before .in-room .ensures) ∙ c .before .before .before .n .given .1) in
+    let h = counted-there (length (a .out .now)) (a .at) (c .before .before .before .before .before .before .string-len .result) (c .before .before .before .n .given .0 .0)
+    (sym (c .before .before .before .before .before .in-room .ensures) ∙ c .before .before .before .n .given .1) in
     let m = h .0 in
     let f = h .1 in
     omega arith
@@ -22,7 +23,8 @@ returns : tie.Need-returns
 returns c =
     let a = c .before .before .before .before .before .before .before .before .before .before .before .before .args in
     let e = sym (c .before .before .before .before .before .before .before .before .in-room .ensures) ∙ c .before .before .before .before .before .before .n .given .1 in
-    let m = counted-there (length (a .out .now)) (a .at) (c .before .before .before .before .before .before .before .before .before .string-len .result) (c .before .before .before .before .before .before .n .given .0 .0) e .0 in
+    let m = counted-there (length (a .out .now)) (a .at) (c .before .before .before .before .before .before .before .before .before .string-len .result)
+    (c .before .before .before .before .before .before .n .given .0 .0) e .0 in
     let s = c .before .before .before .before .before .before .before .before .before .string-len .ensures in
     writes-all (a .out .now) (a .at) (string (a .text .now)) s e
     (c .before .before .store-plain .ensures ∙ ap (splice (a .out .now) (a .at)) (sym (string-clean (a .text .now) (omega arith))))
@@ -41,7 +43,8 @@ write-string-spec =
     returns
     (λ c κs.
     let a = c .before .before .before .before .before .before .before .before .before .args in
-    let h = counted-there (length (a .out .now)) (a .at) (c .before .before .before .before .before .before .string-len .result) _ (sym (c .before .before .before .before .before .in-room .ensures) ∙ c .before .before .before .n .given .1) .1 in
+    let h = counted-there (length (a .out .now)) (a .at) (c .before .before .before .before .before .before .string-len .result) _
+    (sym (c .before .before .before .before .before .in-room .ensures) ∙ c .before .before .before .n .given .1) .1 in
     omega arith)
     (λ c.
     let a = c .before .before .before .before .before .before .before .args in
@@ -49,5 +52,6 @@ write-string-spec =
     (λ c. search needs)
     (λ c.
     let a = c .before .before .before .before .before .before .before .before .before .before .before .before .args in
-    writes-all (a .out .now) (a .at) (string (a .text .now)) (c .before .before .before .before .before .before .before .before .before .string-len .ensures) (sym (c .before .before .before .before .before .before .before .before .in-room .ensures) ∙ c .before .before .before .before .before .before .n .given .1)
+    writes-all (a .out .now) (a .at) (string (a .text .now)) (c .before .before .before .before .before .before .before .before .before .string-len .ensures)
+    (sym (c .before .before .before .before .before .before .before .before .in-room .ensures) ∙ c .before .before .before .before .before .before .n .given .1)
     (c .before .before .store-string .ensures)))

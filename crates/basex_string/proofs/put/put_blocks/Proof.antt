@@ -29,7 +29,8 @@ loop-again c =
       m .kept .0 ∙ l .inv .0,
       omega arith,
       omega arith,
-      copied-more (a .bytes .now) (a .out .now) (a .from) (a .to) (l .k) 16 (l .inv .3) (omega arith) (omega arith) (m .ensures ∙ ap (λ (o : ℕ). putAt (l .out) (a .to + l .k) (take o (drop i (a .bytes .now)))) z),
+      copied-more (a .bytes .now) (a .out .now) (a .from) (a .to) (l .k) 16 (l .inv .3) (omega arith) (omega arith)
+          (m .ensures ∙ ap (λ (o : ℕ). putAt (l .out) (a .to + l .k) (take o (drop i (a .bytes .now)))) z),
     )
 
 pub put-blocks-spec : {M : Type 1} → statement M

@@ -50,20 +50,23 @@ store-judged-text-spec =
     let a = c .before .before .before .before .before .before .args in
     let l = c .before .before .before .loop in
     let d = length-drop (l .i + 1) (a .bytes .now) in
-    going-end (a .bytes .now) (a .out .now) (a .at) (a .to) (l .i + 1) (l .inv .2) (taken-zero (length (l .out) - l .n) (a .bytes .now) (l .i) (c .before .before .loop-test .taken) (c .if1 .taken)) (omega arith))
+    going-end (a .bytes .now) (a .out .now) (a .at) (a .to) (l .i + 1) (l .inv .2) (taken-zero (length (l .out) - l .n) (a .bytes .now) (l .i) (c .before .before .loop-test .taken) (c .if1 .taken))
+    (omega arith))
     (λ c. c .before .before .before .before .loop .inv .0)
     (λ c.
     let a = c .before .before .before .before .before .before .before .args in
     let l = c .before .before .before .before .loop in
     let d = length-drop (l .i) (a .bytes .now) in
-    going-end (a .bytes .now) (a .out .now) (a .at) (a .to) (l .i) (l .inv .2) (taken-full (length (l .out) - l .n) (a .bytes .now) (l .i) (c .before .before .before .loop-test .taken) (c .before .if1 .left) (omega arith)) (omega arith))
+    going-end (a .bytes .now) (a .out .now) (a .at) (a .to) (l .i) (l .inv .2)
+    (taken-full (length (l .out) - l .n) (a .bytes .now) (l .i) (c .before .before .before .loop-test .taken) (c .before .if1 .left) (omega arith)) (omega arith))
     (λ c. omega arith)
     (λ c. omega arith)
     (λ c. c .before .before .before .before .before .before .loop .inv .0)
     (λ c.
     let a = c .before .before .before .before .before .before .before .before .before .args in
     let l = c .before .before .before .before .before .before .loop in
-    going-end (a .bytes .now) (a .out .now) (a .at) (a .to) (l .i + 1) (l .inv .2) (taken-cut (length (l .out) - l .n) (a .bytes .now) (l .i) (c .before .before .before .before .before .loop-test .taken) (omega arith) (c .before .if3 .taken) (omega arith)) (omega arith))
+    going-end (a .bytes .now) (a .out .now) (a .at) (a .to) (l .i + 1) (l .inv .2)
+    (taken-cut (length (l .out) - l .n) (a .bytes .now) (l .i) (c .before .before .before .before .before .loop-test .taken) (omega arith) (c .before .if3 .taken) (omega arith)) (omega arith))
     (λ c. omega arith)
     (λ c. omega arith)
     (λ c. omega arith)
@@ -80,7 +83,8 @@ store-judged-text-spec =
     (λ c.
     let a = c .before .before .before .before .before .before .before .before .before .before .before .before .args in
     let l = c .before .before .before .before .before .before .before .before .before .loop in
-    let g = run-goes (a .bytes .now) (l .i) (c .before .before .before .before .before .before .before .before .loop-test .taken) (c .before .before .before .before .before .before .if1 .left) (c .before .before .before .before .if3 .left) in
+    let g = run-goes (a .bytes .now) (l .i) (c .before .before .before .before .before .before .before .before .loop-test .taken) (c .before .before .before .before .before .before .if1 .left)
+    (c .before .before .before .before .if3 .left) in
     past (c .before .before .before .before .before .before .before .before .loop-test .taken) (c .before .before .put-run .ensures .0) (omega arith) g)
     loop-again-2
     (λ c. c .before .loop .inv .0)
