@@ -1,10 +1,7 @@
 -- The numbers by which exported calls answer.
 use mathlib.Core.List.{List}
 use Prim.Native.Nat.{ℕ, _+_}
-use Rattle.wire.specs.Call.{outputAfter, Gives}
-use Rattle.wire.specs.declared.Counted.{Counted}
-use Rattle.wire.specs.declared.Refusal.{Refusal}
-use Rattle.wire.specs.Refusals.{numberOf}
+use Rattle.wire.specs.{Call.outputAfter, Call.Gives, declared.Counted.Counted, declared.Refusal.Refusal, Refusals.numberOf}
 
 -- a refusal among counts: its number on top of 2^63, above every count, since no slice is so long
 abbrev pub refusalCode : Refusal → ℕ

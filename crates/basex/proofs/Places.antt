@@ -12,9 +12,9 @@ use Rattle.basex_string.specs.declared.Ends.{Ends}
 use Rattle.basex_string.specs.Answers.{located}
 use Rattle.basex_string.specs.Scan.{reading}
 use Rattle.basex_string.specs.Strings.{string}
-use Rattle.basex_string.specs.Taking.{Taken, taken, ended}
+use Rattle.basex_string.specs.Unescaping.{Unescaped, unescaped, ended}
 use Rattle.basex_string.proofs.Laws.{next-field}
-use Rattle.basex_string.proofs.Taking.{taken-left}
+use Rattle.basex_string.proofs.Unescaping.{unescaped-left}
 use Rattle.basex.specs.declared.TwoAt.the-variants.{At, Refused}
 use Rattle.basex.specs.Texts.{texts, twoAt, textsStored}
 
@@ -81,13 +81,13 @@ module _ (b : List ℕ) (at : ℕ) where
         rw (h .got) (rw q (rw (h .long, g .long) (ap (At (length (h .text)) (length (g .text))) n)))
 
 -- one more text is stored
-pub one-more : (b out : List ℕ) (from to k : ℕ) (r : Ends) → r ≡ ended from (length b - from) to (taken (length out - to) (drop from b))
+pub one-more : (b out : List ℕ) (from to k : ℕ) (r : Ends) → r ≡ ended from (length b - from) to (unescaped (length out - to) (drop from b))
     → (from ≤ r .next) × (r .next ≤ from + (length b - from))
-    × (textsStored (suc k) out to (drop from b) ≡ textsStored k (splice out to (taken (length out - to) (drop from b) .text)) (r .to) (drop (r .next) b))
+    × (textsStored (suc k) out to (drop from b) ≡ textsStored k (splice out to (unescaped (length out - to) (drop from b) .text)) (r .to) (drop (r .next) b))
 unfolding textsStored
 one-more b out from to k r e =
-    let x : Taken = taken (length out - to) (drop from b) in
+    let x : Unescaped = unescaped (length out - to) (drop from b) in
     let n : r .next ≡ from + (length b - from - length (x .rest)) = ap (λ (m : Ends). m .next) e in
     let t : r .to ≡ to + length (x .text) = ap (λ (m : Ends). m .to) e in
-    let d : drop (r .next) b ≡ x .rest = ap (λ (m : ℕ). drop m b) n ∙ taken-left (length out - to) b from in
+    let d : drop (r .next) b ≡ x .rest = ap (λ (m : ℕ). drop m b) n ∙ unescaped-left (length out - to) b from in
     (omega arith, omega arith, ap (λ (m : ℕ). textsStored k (splice out to (x .text)) m (x .rest)) (sym t) ∙ ap (textsStored k (splice out to (x .text)) (r .to)) (sym d))

@@ -1,6 +1,6 @@
 -- Strings one behind the other: reading takes exactly what is written, and storing puts their texts one behind the other.
 use mathlib.Core.Path.{_≡_, refl, sym, ap, _∙_}
-use mathlib.Core.List.{List, [], _∷_, _++_, flatten, append-assoc}
+use mathlib.Core.List.{List, [], _∷_, _++_, flatten, append-assoc, flatMap}
 use mathlib.Core.Logic.{_⊎_}
 use Prim.Native.Nat.{ℕ, zero, suc, _+_, _-_, _≤_}
 use native.Mathlib.Omega.{arith}
@@ -12,9 +12,9 @@ use Rattle.wire.specs.declared.Refusal.the-variants.{MoreBytes, BadEscape}
 use Rattle.wire.proofs.Splices.{length-splice, splice-splice, splice-none}
 use Rattle.basex_string.specs.Scan.{reading}
 use Rattle.basex_string.specs.Strings.{string}
-use Rattle.basex_string.specs.Taking.{Taken}
+use Rattle.basex_string.specs.Unescaping.{Unescaped}
 use Rattle.basex_string.proofs.Laws.{exact, read-written, refuses}
-use Rattle.basex_string.proofs.Taking.{taken-read}
+use Rattle.basex_string.proofs.Unescaping.{unescaped-read}
 use Rattle.basex.specs.Texts.{strings, texts, textsStored}
 
 -- the texts of strings that were read, behind one that was read first
@@ -61,18 +61,21 @@ read-none s ts rest e = let g : Got.got [] s ≡ Got.got ts rest = sym (texts-no
 
 -- what n strings were read is what a writer writes
 pub texts-exact : (n : ℕ) (s : List ℕ) (ts : List (List ℕ)) (rest : List ℕ) → texts n s ≡ Got.got ts rest → (length ts ≡ n) × (s ≡ strings ts ++ rest)
-unfolding strings
+unfolding flatMap
 texts-exact zero s ts rest e =
     let g = read-none s ts rest e in
     (ap length (sym (g .0)), rw (sym (g .0)) (g .1))
 texts-exact (suc n) s ts rest e =
     let g = read-more n s ts rest e in
-    let i = texts-exact n (g .behind) (g .others) rest (g .goes) in
-    (ap length (sym (g .all)) ∙ ap suc (i .0), exact s (g .first) (g .behind) (g .got) ∙ ap (λ (m : List ℕ). string (g .first) ++ m) (i .1) ∙ sym (append-assoc (string (g .first)) (strings (g .others)) rest) ∙ ap (λ (m : List (List ℕ)). strings m ++ rest) (g .all))
+    let i = texts-exact n (g .behind) (g .others) rest (g .goes) in (
+      ap length (sym (g .all)) ∙ ap suc (i .0),
+      exact s (g .first) (g .behind) (g .got) ∙ ap (λ (m : List ℕ). string (g .first) ++ m) (i .1)
+          ∙ sym (append-assoc (string (g .first)) (strings (g .others)) rest) ∙ ap (λ (m : List (List ℕ)). strings m ++ rest) (g .all),
+    )
 
 -- what was written is read, whatever follows
 pub texts-written : (ts : List (List ℕ)) (rest : List ℕ) → texts (length ts) (strings ts ++ rest) ≡ Got.got ts rest
-unfolding strings
+unfolding flatMap
 texts-written [] rest = texts-none rest
 texts-written (t ∷ ts) rest =
     let e = ap reading (append-assoc (string t) (strings ts) rest) ∙ read-written t (strings ts ++ rest) in
@@ -109,5 +112,5 @@ texts-stored (suc n) out to s ts rest e h =
     let v = splice-splice out to t (flatten us) (omega arith) in
     let k : to + length t + length (flatten us) ≡ to + length (flatten ts) = omega arith in
     let w = v ∙ ap (λ (m : List (List ℕ)). splice out to (flatten m)) (g .all) in
-    ap (λ (x : Taken). textsStored n (splice out to (x .text)) (to + length (x .text)) (x .rest)) (taken-read (length out - to) s t (g .behind) (g .got) (omega arith))
+    ap (λ (x : Unescaped). textsStored n (splice out to (x .text)) (to + length (x .text)) (x .rest)) (unescaped-read (length out - to) s t (g .behind) (g .got) (omega arith))
     ∙ i ∙ ap (λ (m : List ℕ). record { out = m; to = to + length t + length (flatten us); rest = rest }) w ∙ ap (λ (m : ℕ). record { out = splice out to (flatten ts); to = m; rest = rest }) k

@@ -1,14 +1,11 @@
 -- Document 01, "First byte of a request and its strings", and what the response to each is made of.
-use mathlib.Core.Bool.{Bool, true, false}
-use mathlib.Core.List.{List, [], _∷_}
+use mathlib.Core.{Bool.Bool, Bool.true, Bool.false, List.List, List.[], List._∷_}
 use Prim.Native.Nat.{ℕ}
 use lib.Dec.{leb, eqb}
 use Rattle.wire.specs.Bytes.{if, between}
 use Rattle.basex.specs.declared.Reply.{Reply}
 use Rattle.basex.specs.declared.Reply.the-variants.{Command, Create, Query, Results, Full}
-use Rattle.basex.specs.declared.Kind.{Kind}
-use Rattle.basex.specs.declared.Found.{Found}
-use Rattle.basex.specs.declared.Columns.{Columns}
+use Rattle.basex.specs.{declared.Kind.Kind, declared.Found.Found, declared.Columns.Columns}
 
 -- first byte, number of strings, response; the last is COMMAND
 unfoldable pub kinds : List Kind
@@ -59,9 +56,12 @@ isCommand reply = columnsOf reply .0
 abbrev pub ahead : Reply → ℕ
 ahead reply = columnsOf reply .1
 
+abbrev pub errorBehind : Reply → Bool
+errorBehind reply = columnsOf reply .2
+
 -- one behind 01, none behind 00
 abbrev pub behind : Reply → ℕ → ℕ
-behind reply status = if (columnsOf reply .2) status 0
+behind reply status = if (errorBehind reply) status 0
 
 abbrev pub listed : Reply → Bool
 listed reply = columnsOf reply .3

@@ -1,14 +1,9 @@
 -- Document 01, "BaseX": a request as it is published. No reader is known here.
-use mathlib.Core.Bool.{Bool, true, false}
-use mathlib.Core.List.{List, [], _∷_}
-use mathlib.Core.Path.{_≡_}
+use mathlib.Core.{Bool.Bool, Bool.true, Bool.false, List.List, List.[], List._∷_, Path._≡_}
 use Prim.Native.Nat.{ℕ}
 use lib.ListN.{length}
 use Rattle.basex_string.specs.Strings.{string}
-use Rattle.basex.specs.declared.Reply.{Reply}
-use Rattle.basex.specs.declared.Found.the-variants.{Known}
-use Rattle.basex.specs.Kinds.{startsCommand, findOf, isCommand}
-use Rattle.basex.specs.Texts.{strings}
+use Rattle.basex.specs.{declared.Reply.Reply, declared.Found.the-variants.Known, Kinds.startsCommand, Kinds.findOf, Kinds.isCommand, Texts.strings}
 
 pub data Request : Type 0 where
   -- "20 to FE starts a COMMAND, one string": the first byte is text

@@ -1,14 +1,10 @@
 -- Document 01, "BaseX": the response to a request, as it is published. No reader is known here.
-use mathlib.Core.Bool.{Bool, true, false}
-use mathlib.Core.List.{List, [], _∷_, _++_}
-use mathlib.Core.Path.{_≡_}
+use mathlib.Core.{Bool.Bool, Bool.true, Bool.false, List.List, List.[], List._∷_, List._++_, List.flatMap, Path._≡_}
 use Prim.Native.Nat.{ℕ, _-_}
-use lib.Dec.{eqb}
-use lib.ListN.{length, drop}
-use Rattle.wire.specs.Bytes.{if}
-use Rattle.basex.specs.declared.Reply.{Reply}
-use Rattle.basex.specs.declared.Found.the-variants.{Known}
-use Rattle.basex.specs.Kinds.{findOf, ahead, behind, listed, isFull, idAllowed, itemStrings, statusAllowed}
+use lib.{Dec.eqb, ListN.length, ListN.drop}
+use Rattle.wire.specs.{Bytes.if, Every.Every}
+use Rattle.basex.specs.{declared.Reply.Reply, declared.Found.the-variants.Known}
+use Rattle.basex.specs.Kinds.{findOf, ahead, errorBehind, behind, listed, isFull, idAllowed, itemStrings, statusAllowed}
 use Rattle.basex.specs.Texts.{strings}
 
 -- "An item is a type id …, in FULL a URI string after 12, 14 and 82, and a string."
@@ -28,9 +24,8 @@ pub record Response : Type 0 where
 unfoldable pub itemBytes : Item → List ℕ
 itemBytes i = i .id ∷ strings (i .texts)
 
-unfoldable pub itemsBytes : List Item → List ℕ
-itemsBytes [] = []
-itemsBytes (i ∷ is) = itemBytes i ++ itemsBytes is
+abbrev pub itemsBytes : List Item → List ℕ
+itemsBytes = flatMap itemBytes
 
 -- "items, then 00"
 abbrev pub listBytes : Reply → List Item → List ℕ
@@ -43,9 +38,8 @@ encode reply r = strings (r .texts) ++ (listBytes reply (r .items) ++ (r .status
 abbrev pub ItemAllowed : Bool → Item → Type 0
 ItemAllowed full i = (idAllowed (i .id) ≡ true) × (length (i .texts) ≡ itemStrings full (i .id))
 
-unfoldable pub ItemsAllowed : Bool → List Item → Type 0
-ItemsAllowed full [] = Unit {0}
-ItemsAllowed full (i ∷ is) = ItemAllowed full i × ItemsAllowed full is
+abbrev pub ItemsAllowed : Bool → List Item → Type 0
+ItemsAllowed full = Every (ItemAllowed full)
 
 -- items only where there is a list of them
 abbrev pub ListAllowed : Bool → Bool → List Item → Type 0
@@ -59,18 +53,10 @@ pub record Published (reply : Reply) (r : Response) : Type 0 where
   pub ended : statusAllowed (r .status) ≡ true
   pub last : length (r .error) ≡ behind reply (r .status)
 
--- where the error string is: "with status 01 the last string is the error" (COMMAND: the second; CREATE, ADD, PUT, PUTBINARY: the only one), or the one
--- behind the status ("01 and an error string")
-abbrev pub errorAs : Reply → Response → List (List ℕ)
-errorAs Reply.Command r = drop (length (r .texts) - 1) (r .texts)
-errorAs Reply.Create r = drop (length (r .texts) - 1) (r .texts)
-errorAs Reply.Query r = r .error
-errorAs Reply.Results r = r .error
-errorAs Reply.Full r = r .error
-
--- the error string of a response, none but with status 01
+-- the error string of a response, none but with status 01: the one behind the status ("01 and an error string"), or the last of those ahead of it
+-- ("with status 01 the last string is the error": of COMMAND the second, of CREATE, ADD, PUT, PUTBINARY the only one)
 unfoldable pub errorOf : Reply → Response → List (List ℕ)
-errorOf reply r = if (eqb (r .status) 1) (errorAs reply r) []
+errorOf reply r = if (eqb (r .status) 1) (if (errorBehind reply) (r .error) (drop (length (r .texts) - 1) (r .texts))) []
 
 -- in front of s stands the encoding of r, a response to a request that starts with the byte, and rest behind it
 pub record Stands (kind : ℕ) (r : Response) (s rest : List ℕ) : Type 0 where

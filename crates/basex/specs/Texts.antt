@@ -1,20 +1,17 @@
 -- Strings one behind the other: as they are written, and as they are read off the front.
-use mathlib.Core.Bool.{Bool}
-use mathlib.Core.List.{List, [], _∷_, _++_, flatten}
+use mathlib.Core.{Bool.Bool, List.List, List.[], List._∷_, List._++_, List.flatMap, List.flatten}
 use Prim.Native.Nat.{ℕ, zero, suc, _+_, _-_}
-use lib.Dec.{eqb}
-use lib.ListN.{length, drop, getD}
-use Rattle.wire.specs.Bytes.{splice}
-use Rattle.wire.specs.Fields.{Got, Field, _>>=_, give}
-use Rattle.basex_string.specs.Strings.{string}
-use Rattle.basex_string.specs.Scan.{reading}
-use Rattle.basex_string.specs.Taking.{Taken, taken}
-use Rattle.basex_string.specs.declared.Ends.{Ends}
+use lib.{Dec.eqb, ListN.length, ListN.drop, ListN.getD}
+use Rattle.wire.specs.{Bytes.if, Bytes.splice, Fields.Got, Fields.Field, Fields._>>=_, Fields.give}
+use Rattle.basex_string.specs.{Strings.string, Scan.reading, Unescaping.Unescaped, Unescaping.unescaped, declared.Ends.Ends}
 use Rattle.basex.specs.declared.TwoAt.{TwoAt}
 
-unfoldable pub strings : List (List ℕ) → List ℕ
-strings [] = []
-strings (t ∷ ts) = string t ++ strings ts
+-- the string of a text that is present, else nothing
+abbrev pub stringIf : Bool → List ℕ → List ℕ
+stringIf present text = if present (string text) []
+
+abbrev pub strings : List (List ℕ) → List ℕ
+strings = flatMap string
 
 -- n strings: "fields left to right"
 unfoldable pub texts : ℕ → Field (List (List ℕ))
@@ -43,14 +40,14 @@ pub record TextsStored : Type 0 where
   pub to : ℕ
   pub rest : List ℕ
 
--- a text that was taken is put from `to` on, and it goes on
-abbrev pub onward : List ℕ → ℕ → Taken → (List ℕ → ℕ → List ℕ → TextsStored) → TextsStored
+-- the text of a string is put from `to` on, and it goes on
+abbrev pub onward : List ℕ → ℕ → Unescaped → (List ℕ → ℕ → List ℕ → TextsStored) → TextsStored
 onward out to t next = next (splice out to (t .text)) (to + length (t .text)) (t .rest)
 
 -- the texts of n strings that were judged, one behind the other from `to` on, as far as there is room: nothing is refused
 unfoldable pub textsStored : ℕ → List ℕ → ℕ → List ℕ → TextsStored
 textsStored zero out to s = record { out = out; to = to; rest = s }
-textsStored (suc n) out to s = onward out to (taken (length out - to) s) (textsStored n)
+textsStored (suc n) out to s = onward out to (unescaped (length out - to) s) (textsStored n)
 
 -- of n bytes from `at` on, what is left to read starts there
 abbrev pub ends : ℕ → ℕ → TextsStored → Ends

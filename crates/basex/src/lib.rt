@@ -4,9 +4,9 @@ ghost use mathlib.Core.Path.{_≡_};
 ghost use Prim.Native.Nat.{_-_, min};
 ghost use lib.ListN.{length, drop};
 ghost use Rattle.wire.specs.Call.{Gives};
-ghost use Rattle.basex.specs.Kinds.{kinds, findOf, rowByte, startsCommand, columnsOf, isCommand, ahead, behind};
+ghost use Rattle.basex.specs.Kinds.{kinds, findOf, rowByte, startsCommand, columnsOf, isCommand, ahead, errorBehind, behind};
 ghost use Rattle.basex.specs.Kinds.{listed, isFull, idAllowed, itemStrings};
-ghost use Rattle.basex.specs.Texts.{texts, twoAt, textsStored, ends};
+ghost use Rattle.basex.specs.Texts.{stringIf, texts, twoAt, textsStored, ends};
 use basex_string::Ends;
 use basex_string::StringAt;
 use wire::Refusal;
@@ -115,10 +115,16 @@ pub fn strings_ahead(reply: Reply) -> usize
     columns_of(reply).1
 }
 
+pub fn error_behind(reply: Reply) -> bool
+    ensures { λ r. ⌜ r ≡ errorBehind reply ⌝ }
+{
+    columns_of(reply).2
+}
+
 pub fn strings_behind(reply: Reply, status: u8) -> usize
     ensures { λ r. ⌜ r ≡ behind reply status ⌝ }
 {
-    if columns_of(reply).2 {
+    if error_behind(reply) {
         status as usize
     } else {
         0
@@ -230,5 +236,16 @@ pub fn store_judged_texts(bytes: &[u8], at: usize, n: usize, out: &mut [u8], to:
     Ends {
         next: from,
         to: end,
+    }
+}
+
+// How many bytes the text takes as a string where it is present.
+pub fn size_if(present: bool, text: &[u8]) -> usize
+    ensures { λ r. ⌜ r ≡ length (stringIf present (now (text .entry))) ⌝ }
+{
+    if present {
+        basex_string::string_len(text)
+    } else {
+        0
     }
 }

@@ -1,27 +1,17 @@
--- What each call counts, and what it tells.
+-- What each call counts, what it tells, and which bytes it stores.
 use mathlib.Core.List.{List, [], _∷_}
 use Prim.Native.Nat.{ℕ, _-_}
-use lib.Dec.{ltb, eqb}
-use lib.ListN.{length, drop, getD}
-use Rattle.wire.specs.Bytes.{if}
+use lib.{Dec.ltb, Dec.eqb, ListN.length, ListN.drop, ListN.getD}
+use Rattle.wire.specs.{Bytes.if, Fields.Got}
 use Rattle.wire.specs.declared.Refusal.the-variants.{MoreBytes, UnknownInstruction, ValueNotAllowed, NoRoom}
-use Rattle.basex_string.specs.declared.StringAt.{StringAt}
-use Rattle.basex_string.specs.Answers.{located, decoded}
+use Rattle.basex_string.specs.{declared.StringAt.StringAt, Answers.located, Answers.decoded}
 use Rattle.basex_string.specs.Scan as strings
-use Rattle.basex.specs.declared.Found.{Found}
-use Rattle.basex.specs.declared.Found.the-variants.{Known, Unknown}
-use Rattle.basex.specs.Kinds.{findOf, listed, isFull}
-use Rattle.basex_request.specs.declared.Requested.{Requested}
-use Rattle.basex_request.specs.Reading.{requested}
+use Rattle.basex.specs.{declared.Found.Found, declared.Found.the-variants.Known, declared.Found.the-variants.Unknown, Kinds.findOf, Kinds.listed, Kinds.isFull}
+use Rattle.basex_request.specs.{declared.Requested.Requested, Reading.requested}
 use Rattle.basex_request.specs.Reading as requests
-use Rattle.basex_response.specs.declared.ItemAt.{ItemAt}
-use Rattle.basex_response.specs.declared.Replied.{Replied}
-use Rattle.basex_response.specs.Errors.{errorAt}
-use Rattle.basex_response.specs.Items.{next, itemAt}
-use Rattle.basex_response.specs.Reading.{answered}
+use Rattle.basex_response.specs.{declared.ItemAt.ItemAt, declared.Replied.Replied, Errors.errorAt, Items.next, Items.itemAt, Reading.answered}
 use Rattle.basex_response.specs.Reading as responses
-use Rattle.basex_c.specs.declared.errors.ErrorIn.{ErrorIn}
-use Rattle.basex_c.specs.Codes.{Outcome, lent}
+use Rattle.basex_c.specs.{declared.errors.ErrorIn.ErrorIn, Codes.Outcome, Codes.lent}
 
 -- the bytes of a string that stands at `at`; told is how long it is, decoded
 abbrev pub stringTold : ℕ → StringAt → Outcome
@@ -52,6 +42,11 @@ itemAs (Known n reply) s at = if (listed reply) (itemAt (isFull reply) at (lengt
 -- "1 for no byte, 2, then fields": where no byte stands at `at`, 1 whatever the kind
 abbrev pub itemIn : ℕ → List ℕ → ℕ → ItemAt
 itemIn kind s at = if (ltb at (length s)) (itemAs (findOf kind) s at) (ItemAt.Refused MoreBytes)
+
+-- the bytes of what was read, none where reading is refused
+abbrev pub bytesRead : {A : Type 0} → (A → List ℕ) → Got A → List ℕ
+bytesRead bytes (Got.refused r) = []
+bytesRead bytes (Got.got a rest) = bytes a
 
 -- judging the string at `at`, with so many numbers lent
 abbrev pub judging : List ℕ → ℕ → ℕ → Outcome

@@ -1,12 +1,11 @@
 // Requests.
 ghost use lib.ListN.{length};
-ghost use Rattle.basex_string.specs.Answers.{outputRead};
 ghost use Rattle.basex_request.specs.Calls.{four};
 ghost use Rattle.basex_request.specs.Reading.{reading, textBytes};
 ghost use Rattle.basex_request.specs.Writing.{written, bytesOf};
 ghost use Rattle.basex_c.specs.Codes.{lent, Tells, Reads};
 ghost use Rattle.answer_c.specs.Codes.{WritesByCode};
-ghost use Rattle.basex_c.specs.Told.{requestTold, requestRead};
+ghost use Rattle.basex_c.specs.Told.{requestTold, bytesRead, requestRead};
 use crate::strings::usable;
 use answer_c::counted_code;
 use answer_c::refusal_code;
@@ -45,7 +44,7 @@ fn tell(told: &mut [u64], answer: Requested) -> u64
 #[no_mangle]
 pub extern "C" fn kdr_basex_read_request(bytes: &[u8], out: &mut [u8], told: &mut [u64]) -> u64
     ensures { λ r. ⌜ Reads (requestRead (now (bytes .entry)) (length (now (out .entry))) (length (now (told .entry))))
-        (now (out .entry)) (outputRead textBytes (now (out .entry)) 0 (reading (now (bytes .entry)))) (now (told .entry))
+        (now (out .entry)) 0 (bytesRead textBytes (reading (now (bytes .entry)))) (now (told .entry))
         r (now (out .exit)) (now (told .exit)) ⌝ }
 {
     let room = usable(out.len(), 5, told.len());

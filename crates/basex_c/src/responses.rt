@@ -1,14 +1,13 @@
 // Responses.
 ghost use mathlib.Core.Path.{_≡_};
 ghost use lib.ListN.{length};
-ghost use Rattle.basex_string.specs.Answers.{outputRead};
 ghost use Rattle.basex.specs.Kinds.{findOf};
 ghost use Rattle.basex.specs.Response.{itemBytes};
 ghost use Rattle.basex_response.specs.Reading.{reading, textBytes};
 ghost use Rattle.basex_response.specs.Writing.{itemWritten, itemOf, fullOf, endWritten, endBytes};
 ghost use Rattle.basex_c.specs.Codes.{lent, Tells, Reads};
 ghost use Rattle.answer_c.specs.Codes.{WritesByCode};
-ghost use Rattle.basex_c.specs.Told.{responseTold, responseRead, itemTold, itemIn, itemRead};
+ghost use Rattle.basex_c.specs.Told.{responseTold, bytesRead, responseRead, itemTold, itemIn, itemRead};
 use crate::strings::span;
 use crate::strings::usable;
 use answer_c::counted_code;
@@ -58,7 +57,7 @@ pub extern "C" fn kdr_basex_read_response(
     told: &mut [u64],
 ) -> u64
     ensures { λ r. ⌜ Reads (responseRead kind (now (bytes .entry)) (length (now (out .entry))) (length (now (told .entry))))
-        (now (out .entry)) (outputRead textBytes (now (out .entry)) 0 (reading kind (now (bytes .entry)))) (now (told .entry))
+        (now (out .entry)) 0 (bytesRead textBytes (reading kind (now (bytes .entry)))) (now (told .entry))
         r (now (out .exit)) (now (told .exit)) ⌝ }
 {
     let room = usable(out.len(), 6, told.len());

@@ -5,12 +5,11 @@ ghost use lib.Dec.{ltb};
 ghost use lib.ListN.{length, drop};
 ghost use Rattle.wire.specs.Bytes.{if};
 ghost use Rattle.wire.specs.Call.{inRoom};
-ghost use Rattle.basex_string.specs.Answers.{outputRead};
 ghost use Rattle.basex_string.specs.Scan.{reading};
 ghost use Rattle.basex_string.specs.Strings.{string};
 ghost use Rattle.basex_c.specs.Codes.{lent, Tells, Reads};
 ghost use Rattle.answer_c.specs.Codes.{WritesByCode};
-ghost use Rattle.basex_c.specs.Told.{stringTold, judging, decoding};
+ghost use Rattle.basex_c.specs.Told.{stringTold, bytesRead, judging, decoding};
 use answer_c::counted_code;
 use answer_c::refusal_code;
 use basex_string::StringAt;
@@ -82,7 +81,7 @@ pub extern "C" fn kdr_basex_decode(
     told: &mut [u64],
 ) -> u64
     ensures { λ r. ⌜ Reads (decoding (now (bytes .entry)) at (length (now (out .entry))) to (length (now (told .entry))))
-        (now (out .entry)) (outputRead (λ s. s) (now (out .entry)) to (reading (drop at (now (bytes .entry))))) (now (told .entry))
+        (now (out .entry)) to (bytesRead (λ s. s) (reading (drop at (now (bytes .entry))))) (now (told .entry))
         r (now (out .exit)) (now (told .exit)) ⌝ }
 {
     let room = usable(out.len(), 1, told.len());

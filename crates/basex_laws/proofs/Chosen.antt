@@ -25,7 +25,8 @@ pub exactly : {A : Type 0} (D : A → Type 0) (x : A) → D x → (y : A) → (D
 exactly D x d y back = (λ e. subst D e d, back)
 
 -- .. of bytes for which there is room or not
-pub roomed : (D : Counted → Type 0) (room at : ℕ) (bytes : List ℕ) → ((n : ℕ) → Fits room at bytes n → D (Count n)) → (room < at + length bytes → D (Refused NoRoom)) → D (inRoom room at (length bytes))
+pub roomed : (D : Counted → Type 0) (room at : ℕ) (bytes : List ℕ) → ((n : ℕ) → Fits room at bytes n → D (Count n)) → (room < at + length bytes → D (Refused NoRoom))
+    → D (inRoom room at (length bytes))
 roomed D room at bytes f g =
     chosen D (ltb room (at + length bytes)) (λ t. g (ltb-true room (at + length bytes) t)) (λ t. f (length bytes) (record { count = refl; within = ltb-false room (at + length bytes) t }))
 

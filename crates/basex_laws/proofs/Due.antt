@@ -108,8 +108,10 @@ module _ (room kind : ℕ) (a b c d : List ℕ) where
   request-exactly y = exactly (Due room kind ts) (written room kind ts) due y (request-back room kind ts y)
 
 -- .. and its encoding stands in the output then
-pub request-there : (out : List ℕ) (kind : ℕ) (ts : List (List ℕ)) (q : Request) → Means kind ts q → request.Published q → length (request.encode q) ≤ length out → outputAfter (written (length out) kind ts) out 0 (bytesOf kind ts) ≡ splice out 0 (request.encode q)
+pub request-there : (out : List ℕ) (kind : ℕ) (ts : List (List ℕ)) (q : Request) → Means kind ts q → request.Published q → length (request.encode q) ≤ length out
+    → outputAfter (written (length out) kind ts) out 0 (bytesOf kind ts) ≡ splice out 0 (request.encode q)
 request-there out kind ts q m p h =
     let n = length (request.encode q) in
     let f : Fits (length out) 0 (request.encode q) n = record { count = refl; within = omega arith } in
-    ap (λ (c : Counted). outputAfter c out 0 (bytesOf kind ts)) (request-back (length out) kind ts (Count n) (q, m, p, f)) ∙ ap (splice out 0) (wrote-bytes (length out) kind n ts (q, p, m .named, m .given, refl, h))
+    ap (λ (c : Counted). outputAfter c out 0 (bytesOf kind ts)) (request-back (length out) kind ts (Count n) (q, m, p, f))
+    ∙ ap (splice out 0) (wrote-bytes (length out) kind n ts (q, p, m .named, m .given, refl, h))

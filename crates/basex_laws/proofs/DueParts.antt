@@ -17,7 +17,7 @@ use Rattle.basex.specs.declared.Found.{Found}
 use Rattle.basex.specs.declared.Found.the-variants.{Known, Unknown}
 use Rattle.basex.specs.declared.Reply.{Reply}
 use Rattle.basex.specs.Kinds.{findOf, ahead, behind, listed, isFull, idAllowed, hasUri, statusAllowed}
-use Rattle.basex.specs.Response.{Item, Response, itemBytes, encode, ItemsAllowed, ListAllowed}
+use Rattle.basex.specs.Response.{Item, Response, itemBytes, encode, ListAllowed}
 use Rattle.basex.specs.Texts.{unused}
 use Rattle.basex_response.specs.Writing.{itemOf, itemWrittenAs, itemWritten, fullOf, endOf, endWrittenAs, endWritten, endBytes}
 use Rattle.basex_request.proofs.Written.{taken-or-empty}
@@ -40,7 +40,8 @@ module _ (room at kind id : ℕ) (uri text : List ℕ) where
   unfolding itemWritten
   item-means i m =
       let full = isFull (m .reply) in
-      rw (sym (m .named), sym (m .one), sym (m .two)) (rw (m .known) (rw (m .list, m .allowed .0) (rw (uri-fits full i) (ap (λ (j : Item). inRoom room at (length (itemBytes j))) (made full i (m .allowed .1) .is)))))
+      rw (sym (m .named), sym (m .one), sym (m .two)) (rw (m .known)
+      (rw (m .list, m .allowed .0) (rw (uri-fits full i) (ap (λ (j : Item). inRoom room at (length (itemBytes j))) (made full i (m .allowed .1) .is)))))
 
   abbrev ItemDue : Counted → Type 0
   ItemDue (Count n) = (i : Item) × MeansItem kind id uri text i × Fits room at (itemBytes i) n
@@ -64,7 +65,16 @@ module _ (room at kind id : ℕ) (uri text : List ℕ) where
       where
         by : (b : Bool) → hasUri (isFull reply) id ≡ b → if b true (unused 0 (uri ∷ [])) ≡ true → MeansItem kind id uri text (itemOf (isFull reply) id uri text)
         by true p u = record { strings = n; reply = reply; known = found; list = l; allowed = (a, rw p refl); named = refl; one = rw p refl; two = rw p refl }
-        by false p u = record { strings = n; reply = reply; known = found; list = l; allowed = (a, rw p refl); named = refl; one = rw p (sym (none-spare (uri ∷ []) 0 0 u (omega arith))); two = rw p refl }
+        by false p u = record {
+          strings = n;
+          reply = reply;
+          known = found;
+          list = l;
+          allowed = (a, rw p refl);
+          named = refl;
+          one = rw p (sym (none-spare (uri ∷ []) 0 0 u (omega arith)));
+          two = rw p refl;
+        }
 
     uri-spare : if (hasUri (isFull reply) id) true (unused 0 (uri ∷ [])) ≡ false → ItemUnwritten room at kind id uri text ValueNotAllowed
     uri-spare u = by (hasUri (isFull reply) id) refl u
@@ -161,7 +171,6 @@ module _ (room at kind : ℕ) (first second : List ℕ) (status : ℕ) (error : 
 
   module _ (n : ℕ) (reply : Reply) (found : findOf kind ≡ Known n reply) where
     none-listed : ListAllowed (listed reply) (isFull reply) []
-    unfolding ItemsAllowed
     none-listed = by (listed reply)
       where
         by : (b : Bool) → ListAllowed b (isFull reply) []
@@ -169,7 +178,8 @@ module _ (room at kind : ℕ) (first second : List ℕ) (status : ℕ) (error : 
         by false = refl
 
     -- the response that is meant where nothing is refused
-    end-meant : statusAllowed status ≡ true → unused (ahead reply) (first ∷ second ∷ []) ≡ true → unused (behind reply status) (error ∷ []) ≡ true → MeansEnd kind first second status error reply (endOf reply first second status error)
+    end-meant : statusAllowed status ≡ true → unused (ahead reply) (first ∷ second ∷ []) ≡ true → unused (behind reply status) (error ∷ []) ≡ true
+        → MeansEnd kind first second status error reply (endOf reply first second status error)
     end-meant s u v =
         let f = ahead-few reply in
         let h : status ≤ 1 = leb-true status 1 s in
@@ -177,7 +187,12 @@ module _ (room at kind : ℕ) (first second : List ℕ) (status : ℕ) (error : 
         record {
           strings = n;
           known = found;
-          published = record { first = length-take-le (ahead reply) (first ∷ second ∷ []) (omega arith); list = none-listed; ended = s; last = length-take-le (behind reply status) (error ∷ []) (omega arith) };
+          published = record {
+            first = length-take-le (ahead reply) (first ∷ second ∷ []) (omega arith);
+            list = none-listed;
+            ended = s;
+            last = length-take-le (behind reply status) (error ∷ []) (omega arith);
+          };
           bare = refl;
           state = refl;
           one = taken-or-empty (first ∷ second ∷ []) (ahead reply) 0 u;
@@ -204,7 +219,8 @@ module _ (room at kind : ℕ) (first second : List ℕ) (status : ℕ) (error : 
   pub end-exactly : (y : Counted) → (endWritten room at kind first second status error ≡ y) ↔ EndDue y
   end-exactly y = exactly EndDue answer end-due y (end-back y)
 
-pub end-there : (out : List ℕ) (at kind : ℕ) (first second : List ℕ) (status : ℕ) (error : List ℕ) (reply : Reply) (r : Response) → MeansEnd kind first second status error reply r → at + length (encode reply r) ≤ length out
+pub end-there : (out : List ℕ) (at kind : ℕ) (first second : List ℕ) (status : ℕ) (error : List ℕ) (reply : Reply) (r : Response)
+    → MeansEnd kind first second status error reply r → at + length (encode reply r) ≤ length out
     → outputAfter (endWritten (length out) at kind first second status error) out at (endBytes (findOf kind) first second status error) ≡ splice out at (encode reply r)
 end-there out at kind first second status error reply r m h =
     let w = end-back (length out) at kind first second status error (Count (length (encode reply r))) (reply, r, m, record { count = refl; within = h }) in

@@ -1,6 +1,6 @@
 -- A published response has one error string with status 01, the last of its strings, and none with 00.
 use mathlib.Core.Path.{_≡_, refl, sym, ap, _∙_}
-use mathlib.Core.List.{List, [], _∷_, append-nil, flatten}
+use mathlib.Core.List.{List, [], _∷_, append-nil, flatten, flatMap}
 use Prim.Native.Nat.{ℕ}
 use native.Mathlib.Omega.{arith}
 use lib.ListN.{length, getD}
@@ -35,27 +35,41 @@ unfolding flatten
 after-one t n = ap (λ (u : List ℕ). behind-one u n) (sym (append-nil t))
 
 pub error-one : (reply : Reply) (r : Response) → Published reply r → r .status ≡ 1 → OneError reply r
-unfolding errorOf itemTexts flatten
+unfolding errorOf flatMap flatten
 error-one Command r p s =
     let t = two-of (r .texts) (p .first) in
     let e = none-of (r .error) (p .last) in
-    record { front = getD (r .texts) 0 [] ∷ []; error = getD (r .texts) 1 []; one = rw (s, t) refl; last = rw (t, p .list, e) refl; told = refl; place = after-one (getD (r .texts) 0 []) (length (getD (r .texts) 1 [])) }
+    record {
+      front = getD (r .texts) 0 [] ∷ [];
+      error = getD (r .texts) 1 [];
+      one = rw (s, t) refl;
+      last = rw (t, p .list, e) refl;
+      part = refl;
+      place = after-one (getD (r .texts) 0 []) (length (getD (r .texts) 1 []));
+    }
 error-one Create r p s =
     let t = one-of (r .texts) (p .first) in
     let e = none-of (r .error) (p .last) in
-    record { front = []; error = getD (r .texts) 0 []; one = rw (s, t) refl; last = rw (t, p .list, e) refl; told = refl; place = refl }
+    record { front = []; error = getD (r .texts) 0 []; one = rw (s, t) refl; last = rw (t, p .list, e) refl; part = refl; place = refl }
 error-one Query r p s =
     let t = one-of (r .texts) (p .first) in
     let e = one-of (r .error) (p .last ∙ s) in
-    record { front = getD (r .texts) 0 [] ∷ []; error = getD (r .error) 0 []; one = rw s e; last = rw (t, p .list, e) refl; told = refl; place = after-one (getD (r .texts) 0 []) (length (getD (r .error) 0 [])) }
+    record {
+      front = getD (r .texts) 0 [] ∷ [];
+      error = getD (r .error) 0 [];
+      one = rw s e;
+      last = rw (t, p .list, e) refl;
+      part = refl;
+      place = after-one (getD (r .texts) 0 []) (length (getD (r .error) 0 []));
+    }
 error-one Results r p s =
     let t = none-of (r .texts) (p .first) in
     let e = one-of (r .error) (p .last ∙ s) in
-    record { front = itemTexts (r .items); error = getD (r .error) 0 []; one = rw s e; last = rw (t, e) refl; told = refl; place = refl }
+    record { front = itemTexts (r .items); error = getD (r .error) 0 []; one = rw s e; last = rw (t, e) refl; part = refl; place = refl }
 error-one Full r p s =
     let t = none-of (r .texts) (p .first) in
     let e = one-of (r .error) (p .last ∙ s) in
-    record { front = itemTexts (r .items); error = getD (r .error) 0 []; one = rw s e; last = rw (t, e) refl; told = refl; place = refl }
+    record { front = itemTexts (r .items); error = getD (r .error) 0 []; one = rw s e; last = rw (t, e) refl; part = refl; place = refl }
 
 pub error-none : (reply : Reply) (r : Response) → r .status ≡ 0 → errorOf reply r ≡ []
 unfolding errorOf

@@ -1,6 +1,6 @@
 -- A caller who walks the items gets each of them, with its id, URI and text.
 use mathlib.Core.Path.{_≡_, refl, sym, ap, ap₂, _∙_}
-use mathlib.Core.List.{List, [], _∷_, _++_, append-assoc, append-nil, flatten}
+use mathlib.Core.List.{List, [], _∷_, _++_, append-assoc, append-nil, flatten, flatMap}
 use mathlib.Core.Bool.{Bool, true, false}
 use Prim.Native.Nat.{ℕ, zero, suc, _+_, _-_, _≤_}
 use native.Mathlib.Omega.{arith}
@@ -40,7 +40,8 @@ module _ (full : Bool) where
 
   -- at an item, and at the end, whatever stands ahead
   module _ (s front rest : List ℕ) where
-    pub item-told : (i : Item) → ItemAllowed full i → s ≡ front ++ (itemBytes i ++ rest) → itemAt full (length front) (length s - length front) (next full (drop (length front) s)) ≡ item-at.Item (i .id) (uriLength full i) (textLength full i) (length front + length (itemBytes i))
+    pub item-told : (i : Item) → ItemAllowed full i → s ≡ front ++ (itemBytes i ++ rest)
+        → itemAt full (length front) (length s - length front) (next full (drop (length front) s)) ≡ item-at.Item (i .id) (uriLength full i) (textLength full i) (length front + length (itemBytes i))
     item-told i a e =
         let d : drop (length front) s ≡ itemBytes i ++ rest = ap (drop (length front)) e ∙ drop-append-seam front (itemBytes i ++ rest) in
         let n : next full (drop (length front) s) ≡ Got.got (Next.item i) rest = ap (next full) d ∙ next-item full i rest a in
@@ -61,9 +62,10 @@ module _ (full : Bool) where
   text-there : (out before t rest : List ℕ) → out ≡ before ++ (t ++ rest) → take (length t) (drop (length before) out) ≡ t
   text-there out before t rest e = rw (ap (drop (length before)) e ∙ drop-append-seam before (t ++ rest)) (take-append-seam t rest)
 
-  pub items-handed : (is : List Item) (n : ℕ) (s front rest out before last : List ℕ) → ItemsAllowed full is → length is ≤ n → s ≡ front ++ (itemsBytes is ++ (0 ∷ rest)) → out ≡ before ++ (flatten (itemTexts is) ++ last)
+  pub items-handed : (is : List Item) (n : ℕ) (s front rest out before last : List ℕ) → ItemsAllowed full is → length is ≤ n → s ≡ front ++ (itemsBytes is ++ (0 ∷ rest))
+      → out ≡ before ++ (flatten (itemTexts is) ++ last)
       → handed (suc n) full s out (length front) (length before) ≡ is
-  unfolding handed itemsBytes itemTexts ItemsAllowed
+  unfolding handed flatMap
   items-handed [] n s front rest out before last a h e o = rw (end-told s front rest e) refl
   items-handed (i ∷ is) zero s front rest out before last a h e o = absurd (omega arith)
   items-handed (i ∷ is) (suc n) s front rest out before last a h e o =
@@ -72,14 +74,17 @@ module _ (full : Bool) where
       let text = textOf full i in
       let more = flatten (itemTexts is) ++ last in
       let b : s ≡ front ++ (itemBytes i ++ (itemsBytes is ++ (0 ∷ rest))) = e ∙ ap (λ (m : List ℕ). front ++ m) (append-assoc (itemBytes i) (itemsBytes is) (0 ∷ rest)) in
-      let f : flatten (itemTexts (i ∷ is)) ++ last ≡ uri ++ text ++ more = ap (λ (m : List ℕ). m ++ last) (flatten-append (i .texts) (itemTexts is) ∙ ap (λ (m : List ℕ). m ++ flatten (itemTexts is)) (m .flat)) ∙ append-assoc (uri ++ text) (flatten (itemTexts is)) last in
+      let f : flatten (itemTexts (i ∷ is)) ++ last ≡ uri ++ text ++ more = ap (λ (m : List ℕ). m ++ last)
+      (flatten-append (i .texts) (itemTexts is) ∙ ap (λ (m : List ℕ). m ++ flatten (itemTexts is)) (m .flat)) ∙ append-assoc (uri ++ text) (flatten (itemTexts is)) last in
       let p : out ≡ before ++ (uri ++ (text ++ more)) = o ∙ ap (λ (m : List ℕ). before ++ m) (f ∙ append-assoc uri text more) in
       let q : out ≡ before ++ uri ++ (text ++ more) = p ∙ sym (append-assoc before uri (text ++ more)) in
       let w : out ≡ before ++ uri ++ text ++ more = q ∙ sym (append-assoc (before ++ uri) text more) in
       let k : length before + uriLength full i ≡ length (before ++ uri) = ap (λ (m : ℕ). length before + m) (sym (m .uri)) ∙ sym (length-append before uri) in
-      let j : length before + (uriLength full i + textLength full i) ≡ length (before ++ uri ++ text) = let x = length-append before uri in let y = length-append (before ++ uri) text in let z = m .uri in let v = m .text in omega arith in
+      let j : length before + (uriLength full i + textLength full i) ≡ length (before ++ uri ++ text) = let x = length-append before uri in
+      let y = length-append (before ++ uri) text in let z = m .uri in let v = m .text in omega arith in
       let u : take (uriLength full i) (drop (length before) out) ≡ uri = ap (λ (m : ℕ). take m (drop (length before) out)) (sym (m .uri)) ∙ text-there out before uri (text ++ more) p in
       let t : take (textLength full i) (drop (length before + uriLength full i) out) ≡ text = ap₂ (λ (m l : ℕ). take m (drop l out)) (sym (m .text)) k ∙ text-there out (before ++ uri) text more q in
       let c = items-handed is n s (front ++ itemBytes i) rest out (before ++ uri ++ text) last (a .1) (omega arith) (b ∙ sym (append-assoc front (itemBytes i) (itemsBytes is ++ (0 ∷ rest)))) w in
-      let g : handed (suc n) full s out (length front + length (itemBytes i)) (length before + (uriLength full i + textLength full i)) ≡ is = ap₂ (handed (suc n) full s out) (sym (length-append front (itemBytes i))) j ∙ c in
+      let g : handed (suc n) full s out (length front + length (itemBytes i)) (length before + (uriLength full i + textLength full i)) ≡ is = ap₂ (handed (suc n) full s out)
+      (sym (length-append front (itemBytes i))) j ∙ c in
       rw (item-told s front (itemsBytes is ++ (0 ∷ rest)) i (a .0) b) (ap₂ (λ (x : Item) (xs : List Item). x ∷ xs) (ap₂ (itemOf full (i .id)) u t ∙ m .is) g)

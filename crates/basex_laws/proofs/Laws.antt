@@ -1,6 +1,6 @@
 -- Responses as a caller sees them: read after written, written after read, the items handed out, and refusals.
 use mathlib.Core.Path.{_≡_, refl, sym, ap, ap₂, _∙_}
-use mathlib.Core.List.{List, [], _∷_, _++_, append-assoc, flatten}
+use mathlib.Core.List.{List, [], _∷_, _++_, append-assoc, flatten, flatMap}
 use mathlib.Core.Bool.{Bool, true, false}
 use Prim.Native.Nat.{ℕ, suc, _+_, _-_, _≤_, _<_}
 use native.Mathlib.Omega.{arith}
@@ -19,9 +19,9 @@ use Rattle.basex.specs.declared.Reply.{Reply}
 use Rattle.basex.specs.declared.Reply.the-variants.{Command, Create, Query, Results, Full}
 use Rattle.basex.specs.Kinds.{findOf, ahead, listed, isFull}
 use Rattle.basex.specs.Response.{Response, itemsBytes, listBytes, encode, ItemsAllowed, Published}
-use Rattle.basex.specs.Texts.{strings, texts}
+use Rattle.basex.specs.Texts.{strings}
 use Rattle.basex_response.specs.declared.Replied.the-variants as replied
-use Rattle.basex_response.specs.Items.{items, itemTexts}
+use Rattle.basex_response.specs.Items.{itemTexts}
 use Rattle.basex_response.specs.Reading.{reading, allTexts, answered, textBytes}
 use Rattle.basex_response.specs.Writing.{fullOf}
 use Rattle.basex_laws.specs.Calls.{listedOf, handed, responded}
@@ -81,7 +81,7 @@ empty (t ∷ ts) e = absurd (omega arith)
 -- of a response with items that was read, the calls of item_at hand out each of them, in order, with its id, URI and text
 pub items-all : (kind : ℕ) (s : List ℕ) (r : Response) (rest out : List ℕ) → listedOf (findOf kind) ≡ true → reading kind s ≡ Got.got r rest → length (flatten (allTexts r)) ≤ length out
     → handed (suc (length (r .items))) (fullOf (findOf kind)) s (outputRead textBytes out 0 (reading kind s)) 0 0 ≡ r .items
-unfolding encode strings splice
+unfolding encode flatMap splice
 items-all kind s r rest out l e room =
     let h = response-exact kind s r rest .0 e in
     let reply = h .reply in
@@ -91,8 +91,11 @@ items-all kind s r rest out l e room =
     let a : ItemsAllowed (isFull reply) is = rw y at (p .list) in
     let none = empty (r .texts) (p .first ∙ listed-none reply y) in
     let tail = r .status ∷ strings (r .error) in
-    let b : s ≡ [] ++ (itemsBytes is ++ (0 ∷ (tail ++ rest))) = h .encoded ∙ ap (λ (ts : List (List ℕ)). strings ts ++ (listBytes reply is ++ tail) ++ rest) none ∙ rw y (append-assoc (itemsBytes is ++ (0 ∷ [])) tail rest ∙ append-assoc (itemsBytes is) (0 ∷ []) (tail ++ rest)) in
-    let f : flatten (allTexts r) ≡ flatten (itemTexts is) ++ flatten (r .error) = ap (λ (ts : List (List ℕ)). flatten (ts ++ (itemTexts is ++ r .error))) none ∙ flatten-append (itemTexts is) (r .error) in
+    let b : s ≡ [] ++ (itemsBytes is ++ (0 ∷ (tail ++ rest))) = h .encoded ∙ ap (λ (ts : List (List ℕ)). strings ts ++ (listBytes reply is ++ tail) ++ rest) none
+    ∙ rw y (append-assoc (itemsBytes is ++ (0 ∷ [])) tail rest ∙ append-assoc (itemsBytes is) (0 ∷ []) (tail ++ rest)) in
+    let f : flatten (allTexts r) ≡ flatten (itemTexts is) ++ flatten (r .error) = ap (λ (ts : List (List ℕ)). flatten (ts ++ (itemTexts is ++ r .error))) none
+    ∙ flatten-append (itemTexts is) (r .error) in
     let last = drop (0 + length (flatten (allTexts r))) out in
-    let o : outputRead textBytes out 0 (reading kind s) ≡ [] ++ (flatten (itemTexts is) ++ (flatten (r .error) ++ last)) = ap (outputRead textBytes out 0) e ∙ putAt-fits out 0 (flatten (allTexts r)) (omega arith) ∙ ap (λ (m : List ℕ). m ++ last) f ∙ append-assoc (flatten (itemTexts is)) (flatten (r .error)) last in
+    let o : outputRead textBytes out 0 (reading kind s) ≡ [] ++ (flatten (itemTexts is) ++ (flatten (r .error) ++ last)) = ap (outputRead textBytes out 0) e
+    ∙ putAt-fits out 0 (flatten (allTexts r)) (omega arith) ∙ ap (λ (m : List ℕ). m ++ last) f ∙ append-assoc (flatten (itemTexts is)) (flatten (r .error)) last in
     rw (h .known) (items-handed (isFull reply) is (length is) s [] (tail ++ rest) (outputRead textBytes out 0 (reading kind s)) [] (flatten (r .error) ++ last) a (omega arith) b o)

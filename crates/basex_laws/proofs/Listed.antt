@@ -1,6 +1,6 @@
 -- Items: reading takes exactly what is written.
 use mathlib.Core.Path.{_≡_, refl, sym, ap, subst, _∙_}
-use mathlib.Core.List.{List, [], _∷_, _++_, append-assoc}
+use mathlib.Core.List.{List, [], _∷_, _++_, append-assoc, flatMap}
 use mathlib.Core.Bool.{Bool, true, false}
 use mathlib.Core.Logic.{_⊎_, inl, inr}
 use Prim.Native.Nat.{ℕ, zero, suc, _+_, _<_}
@@ -51,7 +51,8 @@ module _ (full : Bool) where
           subst (λ (y : Next). Stands (id ∷ s) y rest) (g .0) (rw (eqb-true id 0 p, g .1) refl)
       zero? false p e = allowed? (idAllowed id) refl (rw p at e)
         where
-          allowed? : (b : Bool) → idAllowed id ≡ b → if (idAllowed id) (goOn (texts (itemStrings full id) s) (λ ts. give (Next.item (record { id = id; texts = ts })))) (Got.refused ValueNotAllowed) ≡ Got.got x rest → Stands (id ∷ s) x rest
+          allowed? : (b : Bool) → idAllowed id ≡ b → if (idAllowed id) (goOn (texts (itemStrings full id) s) (λ ts. give (Next.item (record { id = id; texts = ts }))))
+              (Got.refused ValueNotAllowed) ≡ Got.got x rest → Stands (id ∷ s) x rest
           allowed? true q e =
               let f = split (texts (itemStrings full id) s) (λ ts. give (Next.item (record { id = id; texts = ts }))) x rest (rw q at e) in
               let g = same (f .goes) in
@@ -68,7 +69,8 @@ module _ (full : Bool) where
   pub next-item : (i : Item) (rest : List ℕ) → ItemAllowed full i → next full (itemBytes i ++ rest) ≡ Got.got (Next.item i) rest
   unfolding next itemBytes
   next-item i rest h =
-      let t : texts (itemStrings full (i .id)) (strings (i .texts) ++ rest) ≡ Got.got (i .texts) rest = ap (λ (n : ℕ). texts n (strings (i .texts) ++ rest)) (sym (h .1)) ∙ texts-written (i .texts) rest in
+      let t : texts (itemStrings full (i .id)) (strings (i .texts) ++ rest) ≡ Got.got (i .texts) rest = ap (λ (n : ℕ). texts n (strings (i .texts) ++ rest)) (sym (h .1))
+      ∙ texts-written (i .texts) rest in
       rw (id-not-zero (i .id) (h .0)) (rw (h .0) (rw t refl))
 
   pub next-end : (rest : List ℕ) → next full (0 ∷ rest) ≡ Got.got Next.end rest
@@ -84,7 +86,8 @@ module _ (full : Bool) where
       zero? true p e = let d = rw p at e in let z : _≡_ {A = ℕ} 0 1 = cc in absurd (omega arith)
       zero? false p e = allowed? (idAllowed id) refl (rw p at e)
         where
-          allowed? : (b : Bool) → idAllowed id ≡ b → if (idAllowed id) (goOn (texts (itemStrings full id) s) (λ ts. give (Next.item (record { id = id; texts = ts })))) (Got.refused ValueNotAllowed) ≡ Got.refused r → OfFields r
+          allowed? : (b : Bool) → idAllowed id ≡ b → if (idAllowed id) (goOn (texts (itemStrings full id) s) (λ ts. give (Next.item (record { id = id; texts = ts }))))
+              (Got.refused ValueNotAllowed) ≡ Got.refused r → OfFields r
           allowed? false q e = let d = rw q at e in inr (inl (cc))
           allowed? true q e = by (stopped (texts (itemStrings full id) s) (λ ts. give (Next.item (record { id = id; texts = ts }))) r (rw q at e))
             where
@@ -113,7 +116,7 @@ module _ (full : Bool) where
 
   -- the items that were read are what a writer writes
   pub items-exact : (n : ℕ) (s : List ℕ) (is : List Item) (rest : List ℕ) → items n full s ≡ Got.got is rest → Are s is rest
-  unfolding items itemsBytes ItemsAllowed
+  unfolding items flatMap
   items-exact zero s is rest e = let z : _≡_ {A = ℕ} 0 1 = cc in absurd (omega arith)
   items-exact (suc n) s is rest e = by (items-exact n) (next full s) refl
     where
@@ -127,11 +130,12 @@ module _ (full : Bool) where
           let g = same (f .goes) in
           let h = next-exact s (Next.item i) left p in
           let k = more left (f .value) (f .behind) (f .got) in
-          let w = h .1 ∙ ap (λ (m : List ℕ). itemBytes i ++ m) (k .1) ∙ sym (append-assoc (itemBytes i) (itemsBytes (f .value)) (0 ∷ f .behind)) ∙ ap (λ (m : List ℕ). itemBytes i ++ itemsBytes (f .value) ++ (0 ∷ m)) (g .1) in
+          let w = h .1 ∙ ap (λ (m : List ℕ). itemBytes i ++ m) (k .1) ∙ sym (append-assoc (itemBytes i) (itemsBytes (f .value)) (0 ∷ f .behind))
+          ∙ ap (λ (m : List ℕ). itemBytes i ++ itemsBytes (f .value) ++ (0 ∷ m)) (g .1) in
           subst (λ (js : List Item). Are s js rest) (g .0) ((h .0, k .0), w)
 
   pub items-written : (n : ℕ) (is : List Item) (rest : List ℕ) → ItemsAllowed full is → length is < n → items n full (itemsBytes is ++ (0 ∷ rest)) ≡ Got.got is rest
-  unfolding itemsBytes ItemsAllowed
+  unfolding flatMap
   items-written zero is rest a h = absurd (omega arith)
   items-written (suc n) [] rest a h = items-end n (0 ∷ rest) rest (next-end rest)
   items-written (suc n) (i ∷ is) rest a h =
@@ -140,7 +144,7 @@ module _ (full : Bool) where
 
   -- there are fewer items than bytes
   pub items-few : (is : List Item) (rest : List ℕ) → length is < length (itemsBytes is ++ (0 ∷ rest))
-  unfolding itemsBytes itemBytes
+  unfolding flatMap itemBytes
   items-few [] rest = omega arith
   items-few (i ∷ is) rest =
       let k = items-few is rest in

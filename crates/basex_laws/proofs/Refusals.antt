@@ -43,13 +43,15 @@ module _ (reply : Reply) (r : Refusal) where
     judge status s2 true d = error status s2 (stopped (texts (behind reply status) s2) (make status) r d)
     judge status s2 false d = inr (inl (cc))
 
-    third : (s1 : List ℕ) → (byteField s1 ≡ Got.refused r) ⊎ Split (byteField s1) (λ status s2. goOn (required (statusAllowed status) ValueNotAllowed s2) (λ _ s3. goOn (texts (behind reply status) s3) (make status))) (Got.refused r) → OfFields r
+    third : (s1 : List ℕ) → (byteField s1 ≡ Got.refused r) ⊎ Split (byteField s1)
+        (λ status s2. goOn (required (statusAllowed status) ValueNotAllowed s2) (λ _ s3. goOn (texts (behind reply status) s3) (make status))) (Got.refused r) → OfFields r
     third s1 (inl d) = byte s1 d
     third s1 (inr d) = judge (d .value) (d .behind) (statusAllowed (d .value)) (d .goes)
 
   second : (ts : List (List ℕ)) (s1 : List ℕ) → (listField reply s1 ≡ Got.refused r) ⊎ Split (listField reply s1) (ended reply ts) (Got.refused r) → OfFields r
   second ts s1 (inl d) = list (listed reply) s1 d
-  second ts s1 (inr d) = third ts (d .value) (d .behind) (stopped (byteField (d .behind)) (λ status s2. goOn (required (statusAllowed status) ValueNotAllowed s2) (λ _ s3. goOn (texts (behind reply status) s3) (make ts (d .value) status))) r (d .goes))
+  second ts s1 (inr d) = third ts (d .value) (d .behind) (stopped (byteField (d .behind))
+      (λ status s2. goOn (required (statusAllowed status) ValueNotAllowed s2) (λ _ s3. goOn (texts (behind reply status) s3) (make ts (d .value) status))) r (d .goes))
 
   first : (s : List ℕ) → (texts (ahead reply) s ≡ Got.refused r) ⊎ Split (texts (ahead reply) s) (λ ts s1. goOn (listField reply s1) (ended reply ts)) (Got.refused r) → OfFields r
   first s (inl d) = of-texts (ahead reply) s r d

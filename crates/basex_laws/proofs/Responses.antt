@@ -34,7 +34,8 @@ module _ (reply : Reply) where
   pub list-written : (is : List Item) (rest : List ℕ) → ListAllowed (listed reply) (isFull reply) is → listField reply (listBytes reply is ++ rest) ≡ Got.got is rest
   list-written is rest a = by (listed reply) a
     where
-      by : (b : Bool) → ListAllowed b (isFull reply) is → if b (list (isFull reply) (if b (itemsBytes is ++ (0 ∷ [])) [] ++ rest)) (Got.got [] (if b (itemsBytes is ++ (0 ∷ [])) [] ++ rest)) ≡ Got.got is rest
+      by : (b : Bool) → ListAllowed b (isFull reply) is → if b (list (isFull reply) (if b (itemsBytes is ++ (0 ∷ [])) [] ++ rest))
+          (Got.got [] (if b (itemsBytes is ++ (0 ∷ [])) [] ++ rest)) ≡ Got.got is rest
       by true a =
           let s = append-assoc (itemsBytes is) (0 ∷ []) rest in
           ap (list (isFull reply)) s ∙ items-written (isFull reply) (length (itemsBytes is ++ (0 ∷ rest))) is rest a (items-few (isFull reply) is rest)
@@ -42,7 +43,8 @@ module _ (reply : Reply) where
 
   -- what is behind the list
   abbrev pub ended : List (List ℕ) → List Item → Field Response
-  ended ts is s = goOn (byteField s) (λ status s1. goOn (required (statusAllowed status) ValueNotAllowed s1) (λ _ s2. goOn (texts (behind reply status) s2) (λ es. give (record { texts = ts; items = is; status = status; error = es }))))
+  ended ts is s = goOn (byteField s) (λ status s1. goOn (required (statusAllowed status) ValueNotAllowed s1)
+      (λ _ s2. goOn (texts (behind reply status) s2) (λ es. give (record { texts = ts; items = is; status = status; error = es }))))
 
   pub fields-are : (s : List ℕ) → fieldsOf reply s ≡ goOn (texts (ahead reply) s) (λ ts s1. goOn (listField reply s1) (ended ts))
   unfolding fieldsOf
@@ -60,9 +62,11 @@ module _ (reply : Reply) where
       let ts = a .value in
       let b = split (listField reply (a .behind)) (ended ts) r rest (a .goes) in
       let is = b .value in
-      let c = split (byteField (b .behind)) (λ status s1. goOn (required (statusAllowed status) ValueNotAllowed s1) (λ _ s2. goOn (texts (behind reply status) s2) (λ es. give (record { texts = ts; items = is; status = status; error = es })))) r rest (b .goes) in
+      let c = split (byteField (b .behind)) (λ status s1. goOn (required (statusAllowed status) ValueNotAllowed s1)
+      (λ _ s2. goOn (texts (behind reply status) s2) (λ es. give (record { texts = ts; items = is; status = status; error = es })))) r rest (b .goes) in
       let status = c .value in
-      let d = held (statusAllowed status) ValueNotAllowed (c .behind) (λ s2. goOn (texts (behind reply status) s2) (λ es. give (record { texts = ts; items = is; status = status; error = es }))) r rest (c .goes) in
+      let d = held (statusAllowed status) ValueNotAllowed (c .behind)
+      (λ s2. goOn (texts (behind reply status) s2) (λ es. give (record { texts = ts; items = is; status = status; error = es }))) r rest (c .goes) in
       let f = split (texts (behind reply status) (c .behind)) (λ es. give (record { texts = ts; items = is; status = status; error = es })) r rest (d .1) in
       let g = same (f .goes) in
       let first = texts-exact (ahead reply) s ts (a .behind) (a .got) in
@@ -72,19 +76,24 @@ module _ (reply : Reply) where
       let whole = joined s ts is status (f .value) (a .behind) (b .behind) (c .behind) (first .1) (middle .1) byte (last .1 ∙ ap (λ (m : List ℕ). strings (f .value) ++ m) (g .1)) in
       subst (λ (q : Response). Published reply q × (s ≡ encode reply q ++ rest)) (g .0) (record { first = first .0; list = middle .0; ended = d .0; last = last .0 }, whole)
     where
-      joined : (s : List ℕ) (ts : List (List ℕ)) (is : List Item) (status : ℕ) (es : List (List ℕ)) (s1 s2 s3 : List ℕ) → s ≡ strings ts ++ s1 → s1 ≡ listBytes reply is ++ s2 → s2 ≡ status ∷ s3 → s3 ≡ strings es ++ rest
+      joined : (s : List ℕ) (ts : List (List ℕ)) (is : List Item) (status : ℕ) (es : List (List ℕ)) (s1 s2 s3 : List ℕ) → s ≡ strings ts ++ s1 → s1 ≡ listBytes reply is ++ s2
+          → s2 ≡ status ∷ s3 → s3 ≡ strings es ++ rest
           → s ≡ strings ts ++ (listBytes reply is ++ (status ∷ strings es)) ++ rest
-      joined s ts is status es s1 s2 s3 p q u v = p ∙ ap (λ (m : List ℕ). strings ts ++ m) (q ∙ ap (λ (m : List ℕ). listBytes reply is ++ m) (u ∙ ap (λ (m : List ℕ). status ∷ m) v) ∙ sym (append-assoc (listBytes reply is) (status ∷ strings es) rest)) ∙ sym (append-assoc (strings ts) (listBytes reply is ++ (status ∷ strings es)) rest)
+      joined s ts is status es s1 s2 s3 p q u v = p ∙ ap (λ (m : List ℕ). strings ts ++ m)
+          (q ∙ ap (λ (m : List ℕ). listBytes reply is ++ m) (u ∙ ap (λ (m : List ℕ). status ∷ m) v) ∙ sym (append-assoc (listBytes reply is) (status ∷ strings es) rest))
+          ∙ sym (append-assoc (strings ts) (listBytes reply is ++ (status ∷ strings es)) rest)
 
   pub fields-written : (r : Response) (rest : List ℕ) → Published reply r → fieldsOf reply (encode reply r ++ rest) ≡ Got.got r rest
   unfolding encode
   fields-written r rest p =
       let tail = r .status ∷ (strings (r .error) ++ rest) in
       let s1 = listBytes reply (r .items) ++ tail in
-      let w : encode reply r ++ rest ≡ strings (r .texts) ++ s1 = append-assoc (strings (r .texts)) (listBytes reply (r .items) ++ (r .status ∷ strings (r .error))) rest ∙ ap (λ (m : List ℕ). strings (r .texts) ++ m) (append-assoc (listBytes reply (r .items)) (r .status ∷ strings (r .error)) rest) in
+      let w : encode reply r ++ rest ≡ strings (r .texts) ++ s1 = append-assoc (strings (r .texts)) (listBytes reply (r .items) ++ (r .status ∷ strings (r .error))) rest
+      ∙ ap (λ (m : List ℕ). strings (r .texts) ++ m) (append-assoc (listBytes reply (r .items)) (r .status ∷ strings (r .error)) rest) in
       let a : texts (ahead reply) (strings (r .texts) ++ s1) ≡ Got.got (r .texts) s1 = ap (λ (n : ℕ). texts n (strings (r .texts) ++ s1)) (sym (p .first)) ∙ texts-written (r .texts) s1 in
       let b = list-written (r .items) tail (p .list) in
-      let c : texts (behind reply (r .status)) (strings (r .error) ++ rest) ≡ Got.got (r .error) rest = ap (λ (n : ℕ). texts n (strings (r .error) ++ rest)) (sym (p .last)) ∙ texts-written (r .error) rest in
+      let c : texts (behind reply (r .status)) (strings (r .error) ++ rest) ≡ Got.got (r .error) rest = ap (λ (n : ℕ). texts n (strings (r .error) ++ rest)) (sym (p .last))
+      ∙ texts-written (r .error) rest in
       ap (fieldsOf reply) w ∙ fields-are (strings (r .texts) ++ s1) ∙ rw a (rw b (rw (p .ended) (rw c refl)))
 
 -- no bytes: 1, whatever the request

@@ -68,7 +68,8 @@ text-there out to t h =
     rw (ap (drop to) p ∙ drop-at (take to out) (t ++ drop (to + length t) out) to l) (take-append-seam t (drop (to + length t) out))
 
 -- four texts put one behind the other are there, told by their lengths
-pub cut-there : (ts : List (List ℕ)) (flat out : List ℕ) → flat ≡ flatten ts → length flat ≤ length out → Cut (padded ts) (putAt out 0 flat) (lengthAt ts 0) (lengthAt ts 1) (lengthAt ts 2) (lengthAt ts 3)
+pub cut-there : (ts : List (List ℕ)) (flat out : List ℕ) → flat ≡ flatten ts → length flat ≤ length out
+    → Cut (padded ts) (putAt out 0 flat) (lengthAt ts 0) (lengthAt ts 1) (lengthAt ts 2) (lengthAt ts 3)
 unfolding splice
 cut-there ts flat out e h =
     let z : 0 + length flat ≤ length out = omega arith in

@@ -26,9 +26,8 @@ use Rattle.basex_request.proofs.Laws.{InReading}
 use Rattle.basex_response.specs.declared.Replied.{Replied}
 use Rattle.basex_response.specs.declared.Replied.the-variants as replied
 use Rattle.basex_response.specs.Items.{itemTexts}
-use Rattle.basex_response.specs.inner.Judging.{judgement}
 use Rattle.basex_response.specs.Reading as responses
-use Rattle.basex_response.specs.Reading.{fieldsOf, allTexts, answered}
+use Rattle.basex_response.specs.Reading.{fieldsOf, allTexts, judgement, answered}
 use Rattle.basex_response.proofs.Fields.{ahead-few, behind-few}
 use Rattle.basex_response.proofs.Sizes.{texts-shorter}
 use Rattle.basex_response.proofs.Whole.{told}
@@ -60,10 +59,18 @@ module _ (s out : List ℕ) where
   Requests (requested-as.Refused r) = Unread (requests.reading s) (λ q. length (flatten (textsOf q))) (length out) r
 
   request-tells : Requests (requested (length s) (length out) (requests.reading s))
-  request-tells = subst Requests (sym (requested-is (requests.reading s))) (tells requested-as.Refused requestTell requestNeed (length out) s Requests (requests.reading s) request-ends (λ r u. u) read)
+  request-tells = subst Requests (sym (requested-is (requests.reading s)))
+      (tells requested-as.Refused requestTell requestNeed (length out) s Requests (requests.reading s) request-ends (λ r u. u) read)
     where
       read : (q : Request) (n : ℕ) → Reads (requests.reading s) s n q → length (flatten (textsOf q)) ≤ length out → Requests (requestTell q n)
-      read q n r h = record { request = q; reads = r; named = refl; fits = h; stored = rw (r .read) (putAt-fits out 0 (flatten (textsOf q)) (omega arith)); texts = rw (r .read) (cut-there (textsOf q) (flatten (textsOf q)) out refl h) }
+      read q n r h = record {
+        request = q;
+        reads = r;
+        named = refl;
+        fits = h;
+        stored = rw (r .read) (putAt-fits out 0 (flatten (textsOf q)) (omega arith));
+        texts = rw (r .read) (cut-there (textsOf q) (flatten (textsOf q)) out refl h);
+      }
 
   request-back : (y : Requested) → Requests y → requested (length s) (length out) (requests.reading s) ≡ y
   request-back (requested-as.Refused r) u = requested-is (requests.reading s) ∙ unread-back requested-as.Refused requestTell requestNeed (length out) s (requests.reading s) r u
@@ -77,7 +84,11 @@ module _ (s out : List ℕ) where
   request-told y = exactly Requests (requested (length s) (length out) (requests.reading s)) request-tells y (request-back y)
 
   pub request-no-room : (requested (length s) (length out) (requests.reading s) ≡ requested-as.Refused NoRoom) ↔ TooLong (requests.reading s) (λ q. length (flatten (textsOf q))) (length out)
-  request-no-room = (λ e. ten (requests.reading s) requestNeed (length out) never NoRoom refl (request-told (requested-as.Refused NoRoom) .0 e), λ t. request-told (requested-as.Refused NoRoom) .1 (Unread.no-room t))
+  request-no-room = (
+    λ e. ten (requests.reading s) requestNeed (length out) never NoRoom refl (request-told (requested-as.Refused NoRoom) .0 e),
+    λ t. request-told
+        (requested-as.Refused NoRoom) .1 (Unread.no-room t),
+  )
     where
       neither : InReading NoRoom → ⊥
       neither (inl e) = apart (cc)
@@ -109,7 +120,8 @@ parts-flat r h k =
     let second = getD (r .texts) 1 [] in
     let items = flatten (itemTexts (r .items)) in
     flatten-append (r .texts) (itemTexts (r .items) ++ r .error)
-    ∙ ap₂ (λ (m l : List ℕ). m ++ l) (two-flat (r .texts) h) (flatten-append (itemTexts (r .items)) (r .error) ∙ ap (λ (m : List ℕ). items ++ m) (one-flat (r .error) k ∙ sym (append-nil (getD (r .error) 0 []))))
+    ∙ ap₂ (λ (m l : List ℕ). m ++ l) (two-flat (r .texts) h) (flatten-append (itemTexts (r .items)) (r .error)
+    ∙ ap (λ (m : List ℕ). items ++ m) (one-flat (r .error) k ∙ sym (append-nil (getD (r .error) 0 []))))
     ∙ append-assoc first second (items ++ (getD (r .error) 0 [] ++ []))
 
 module _ (kind : ℕ) (s out : List ℕ) where
@@ -141,10 +153,19 @@ module _ (kind : ℕ) (s out : List ℕ) where
   Responses (replied.Refused r) = Unread (responses.reading kind s) (λ p. length (flatten (allTexts p))) (length out) r
 
   response-tells : Responses (answered (length s) (length out) (responses.reading kind s))
-  response-tells = subst Responses (sym (answered-is (responses.reading kind s))) (tells replied.Refused responseTell responseNeed (length out) s Responses (responses.reading kind s) response-ends (λ r u. u) read)
+  response-tells = subst Responses (sym (answered-is (responses.reading kind s)))
+      (tells replied.Refused responseTell responseNeed (length out) s Responses (responses.reading kind s) response-ends (λ r u. u) read)
     where
       read : (p : Response) (n : ℕ) → Reads (responses.reading kind s) s n p → length (flatten (allTexts p)) ≤ length out → Responses (responseTell p n)
-      read p n r h = record { response = p; reads = r; count = refl; state = refl; fits = h; stored = rw (r .read) (putAt-fits out 0 (flatten (allTexts p)) (omega arith)); texts = rw (r .read) (cut-there (partsOf p) (flatten (allTexts p)) out (response-flat p (drop n s) (r .read)) h) }
+      read p n r h = record {
+        response = p;
+        reads = r;
+        count = refl;
+        state = refl;
+        fits = h;
+        stored = rw (r .read) (putAt-fits out 0 (flatten (allTexts p)) (omega arith));
+        texts = rw (r .read) (cut-there (partsOf p) (flatten (allTexts p)) out (response-flat p (drop n s) (r .read)) h);
+      }
 
   response-back : (y : Replied) → Responses y → answered (length s) (length out) (responses.reading kind s) ≡ y
   response-back (replied.Refused r) u = answered-is (responses.reading kind s) ∙ unread-back replied.Refused responseTell responseNeed (length out) s (responses.reading kind s) r u
@@ -159,7 +180,11 @@ module _ (kind : ℕ) (s out : List ℕ) where
   response-told y = exactly Responses (answered (length s) (length out) (responses.reading kind s)) response-tells y (response-back y)
 
   pub response-no-room : (answered (length s) (length out) (responses.reading kind s) ≡ replied.Refused NoRoom) ↔ TooLong (responses.reading kind s) (λ p. length (flatten (allTexts p))) (length out)
-  response-no-room = (λ e. ten (responses.reading kind s) responseNeed (length out) never NoRoom refl (response-told (replied.Refused NoRoom) .0 e), λ t. response-told (replied.Refused NoRoom) .1 (Unread.no-room t))
+  response-no-room = (
+    λ e. ten (responses.reading kind s) responseNeed (length out) never NoRoom refl (response-told (replied.Refused NoRoom) .0 e),
+    λ t. response-told
+        (replied.Refused NoRoom) .1 (Unread.no-room t),
+  )
     where
       neither : (NoRoom ≡ UnknownInstruction) ⊎ OfFields NoRoom → ⊥
       neither (inl e) = apart (cc)
@@ -188,7 +213,8 @@ response-short kind s r rest e =
     let h = response-exact kind s r rest .0 e in
     let f : fieldsOf (h .reply) s ≡ Got.got r rest = sym (reading-known kind (h .strings) (h .reply) (h .known) s) ∙ e in
     let j : judgement (length s) (fieldsOf (h .reply) s) ≡ judgement (length s) (Got.got r rest) = ap (judgement (length s)) f in
-    let t = told (h .reply) s (lengthAt (r .texts) 0) (lengthAt (r .texts) 1) (length (r .items)) (length (flatten (itemTexts (r .items)))) (r .status) (lengthAt (r .error) 0) (length s - length rest) j in
+    let t = told (h .reply) s (lengthAt (r .texts) 0) (lengthAt (r .texts) 1) (length (r .items)) (length (flatten (itemTexts (r .items)))) (r .status) (lengthAt (r .error) 0)
+    (length s - length rest) j in
     let g = same (sym (t .got) ∙ f) .0 in
     let k : length (flatten (allTexts (t .response))) ≡ length (flatten (allTexts r)) = ap (λ (p : Response). length (flatten (allTexts p))) g in
     let a = t .all in

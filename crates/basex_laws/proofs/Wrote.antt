@@ -1,6 +1,6 @@
 -- A response that is written item by item, and then its end, is its encoding.
 use mathlib.Core.Path.{_≡_, refl, sym, ap, ap₂, subst, _∙_}
-use mathlib.Core.List.{List, [], _∷_, _++_, append-assoc, flatten}
+use mathlib.Core.List.{List, [], _∷_, _++_, append-assoc, flatten, flatMap}
 use mathlib.Core.Bool.{Bool, true, false}
 use Prim.Native.Nat.{ℕ, _+_, _≤_}
 use native.Mathlib.Omega.{arith}
@@ -33,20 +33,23 @@ uri-fits full i = by (hasUri full (i .id)) refl
 
 module _ (kind n : ℕ) (reply : Reply) (known : findOf kind ≡ Known n reply) where
   -- an item that is allowed is written where it fits
-  item-fits : (i : Item) (room at : ℕ) → listed reply ≡ true → ItemAllowed (isFull reply) i → at + length (itemBytes i) ≤ room → itemWritten room at kind (i .id) (uriOf (isFull reply) i) (textOf (isFull reply) i) ≡ Count (length (itemBytes i))
+  item-fits : (i : Item) (room at : ℕ) → listed reply ≡ true → ItemAllowed (isFull reply) i → at + length (itemBytes i) ≤ room
+      → itemWritten room at kind (i .id) (uriOf (isFull reply) i) (textOf (isFull reply) i) ≡ Count (length (itemBytes i))
   unfolding itemWritten
-  item-fits i room at l a h = rw known (rw (l, a .0) (rw (uri-fits (isFull reply) i) (ap (λ (j : Item). inRoom room at (length (itemBytes j))) (made (isFull reply) i (a .1) .is) ∙ room-there room at (length (itemBytes i)) h)))
+  item-fits i room at l a h = rw known (rw (l, a .0) (rw (uri-fits (isFull reply) i)
+      (ap (λ (j : Item). inRoom room at (length (itemBytes j))) (made (isFull reply) i (a .1) .is) ∙ room-there room at (length (itemBytes i)) h)))
 
   items-wrote : (is : List Item) (o : Output) → listed reply ≡ true → ItemsAllowed (isFull reply) is → o .at + length (itemsBytes is) ≤ length (o .bytes)
       → wrote (isFull reply) kind is o ≡ record { bytes = splice (o .bytes) (o .at) (itemsBytes is); at = o .at + length (itemsBytes is) }
-  unfolding wrote itemsBytes ItemsAllowed
+  unfolding wrote flatMap
   items-wrote [] o l a h =
       let z : o .at ≡ o .at + 0 = omega arith in
       ap₂ (λ (b : List ℕ) (m : ℕ). record { bytes = b; at = m }) (sym (splice-none (o .bytes) (o .at))) z
   items-wrote (i ∷ is) o l a h =
       let s = length-append (itemBytes i) (itemsBytes is) in
       let w = item-fits i (length (o .bytes)) (o .at) l (a .0) (omega arith) in
-      let p : splice (o .bytes) (o .at) (itemBytes (itemOf (isFull reply) (i .id) (uriOf (isFull reply) i) (textOf (isFull reply) i))) ≡ splice (o .bytes) (o .at) (itemBytes i) = ap (λ (j : Item). splice (o .bytes) (o .at) (itemBytes j)) (made (isFull reply) i (a .0 .1) .is) in
+      let p : splice (o .bytes) (o .at) (itemBytes (itemOf (isFull reply) (i .id) (uriOf (isFull reply) i) (textOf (isFull reply) i))) ≡ splice (o .bytes) (o .at)
+      (itemBytes i) = ap (λ (j : Item). splice (o .bytes) (o .at) (itemBytes j)) (made (isFull reply) i (a .0 .1) .is) in
       let k = length-splice (o .bytes) (o .at) (itemBytes i) (omega arith) in
       let m = items-wrote is (record { bytes = splice (o .bytes) (o .at) (itemBytes i); at = o .at + length (itemBytes i) }) l (a .1) (omega arith) in
       let v = splice-splice (o .bytes) (o .at) (itemBytes i) (itemsBytes is) (omega arith) in
@@ -76,7 +79,7 @@ two-given (a ∷ b ∷ c ∷ ts) n h l = absurd (omega arith)
 
 -- the items stand ahead of everything where there are items
 items-ahead : (reply : Reply) (r : Response) → Published reply r → encode reply r ≡ itemsBytes (r .items) ++ encode reply (bare r)
-unfolding encode strings itemsBytes
+unfolding encode flatMap
 items-ahead reply r p = by reply (r .texts) (r .items) (p .first) (p .list)
   where
     tail : List ℕ
@@ -89,7 +92,8 @@ items-ahead reply r p = by reply (r .texts) (r .items) (p .first) (p .list)
     some q [] is l e = rw l (append-assoc (itemsBytes is) (0 ∷ []) tail)
     some q (t ∷ ts) is l e = absurd (omega arith)
 
-    by : (q : Reply) (ts : List (List ℕ)) (is : List Item) → length ts ≡ ahead q → ListAllowed (listed q) (isFull q) is → strings ts ++ (listBytes q is ++ tail) ≡ itemsBytes is ++ (strings ts ++ (listBytes q [] ++ tail))
+    by : (q : Reply) (ts : List (List ℕ)) (is : List Item) → length ts ≡ ahead q → ListAllowed (listed q) (isFull q) is
+        → strings ts ++ (listBytes q is ++ tail) ≡ itemsBytes is ++ (strings ts ++ (listBytes q [] ++ tail))
     by Command ts is l a = none Command ts is refl a
     by Create ts is l a = none Create ts is refl a
     by Query ts is l a = none Query ts is refl a
@@ -120,23 +124,27 @@ module _ (kind n : ℕ) (reply : Reply) (known : findOf kind ≡ Known n reply) 
 
   end-fits : (room at : ℕ) → at + length (encode reply (bare r)) ≤ room → endWritten room at kind first second (r .status) error ≡ Count (length (encode reply (bare r)))
   unfolding endWritten
-  end-fits room at h = rw known (rw (p .ended) (rw (texts-given .1) (rw (error-given .1) (ap (λ (q : Response). inRoom room at (length (encode reply q))) end-is ∙ room-there room at (length (encode reply (bare r))) h))))
+  end-fits room at h = rw known (rw (p .ended) (rw (texts-given .1)
+      (rw (error-given .1) (ap (λ (q : Response). inRoom room at (length (encode reply q))) end-is ∙ room-there room at (length (encode reply (bare r))) h))))
 
   end-bytes : endBytes (findOf kind) first second (r .status) error ≡ encode reply (bare r)
   end-bytes = rw known (ap (encode reply) end-is)
 
-  list-wrote : (o : Output) → o .at + length (itemsBytes (r .items)) ≤ length (o .bytes) → wrote (fullOf (findOf kind)) kind (r .items) o ≡ record { bytes = splice (o .bytes) (o .at) (itemsBytes (r .items)); at = o .at + length (itemsBytes (r .items)) }
-  unfolding wrote itemsBytes
+  list-wrote : (o : Output) → o .at + length (itemsBytes (r .items)) ≤ length (o .bytes)
+      → wrote (fullOf (findOf kind)) kind (r .items) o ≡ record { bytes = splice (o .bytes) (o .at) (itemsBytes (r .items)); at = o .at + length (itemsBytes (r .items)) }
+  unfolding wrote flatMap
   list-wrote o h = rw known (by (listed reply) refl (p .list))
     where
-      by : (b : Bool) → listed reply ≡ b → ListAllowed b (isFull reply) (r .items) → wrote (isFull reply) kind (r .items) o ≡ record { bytes = splice (o .bytes) (o .at) (itemsBytes (r .items)); at = o .at + length (itemsBytes (r .items)) }
+      by : (b : Bool) → listed reply ≡ b → ListAllowed b (isFull reply) (r .items)
+          → wrote (isFull reply) kind (r .items) o ≡ record { bytes = splice (o .bytes) (o .at) (itemsBytes (r .items)); at = o .at + length (itemsBytes (r .items)) }
       by true l a = items-wrote kind n reply known (r .items) o l a h
       by false l a =
           let z : o .at ≡ o .at + 0 = omega arith in
           rw a (ap₂ (λ (b : List ℕ) (m : ℕ). record { bytes = b; at = m }) (sym (splice-none (o .bytes) (o .at))) z)
 
   -- by calls of write_item and then one of write_end, a published response is written as its encoding
-  pub response-written : (out : List ℕ) (at : ℕ) → at + length (encode reply r) ≤ length out → responded kind r (record { bytes = out; at = at }) ≡ record { bytes = splice out at (encode reply r); at = at + length (encode reply r) }
+  pub response-written : (out : List ℕ) (at : ℕ) → at + length (encode reply r) ≤ length out
+      → responded kind r (record { bytes = out; at = at }) ≡ record { bytes = splice out at (encode reply r); at = at + length (encode reply r) }
   unfolding responded
   response-written out at h =
       let b = itemsBytes (r .items) in

@@ -1,16 +1,10 @@
 -- Responses over several calls: the items of one that was read handed out one by one, and one written item by item.
-use mathlib.Core.Bool.{Bool, false}
-use mathlib.Core.List.{List, [], _∷_}
+use mathlib.Core.{Bool.Bool, Bool.false, List.List, List.[], List._∷_}
 use Prim.Native.Nat.{ℕ, zero, suc, _+_, _-_}
 use lib.ListN.{length, take, drop, getD}
-use Rattle.wire.specs.Bytes.{if}
-use Rattle.wire.specs.Call.{outputAfter}
-use Rattle.basex.specs.declared.Found.{Found}
-use Rattle.basex.specs.Kinds.{findOf, listed, hasUri}
-use Rattle.basex.specs.Response.{Item, Response, itemBytes}
-use Rattle.wire.specs.declared.Counted.{Counted}
-use Rattle.basex_response.specs.declared.ItemAt.{ItemAt}
-use Rattle.basex_response.specs.Items.{next, itemAt}
+use Rattle.wire.specs.{Bytes.if, Call.outputAfter, declared.Counted.Counted}
+use Rattle.basex.specs.{declared.Found.Found, Kinds.findOf, Kinds.listed, Kinds.hasUri, Response.Item, Response.Response, Response.itemBytes}
+use Rattle.basex_response.specs.{declared.ItemAt.ItemAt, Items.next, Items.itemAt}
 use Rattle.basex_response.specs.Writing.{itemOf, itemWritten, fullOf, endWritten, endBytes}
 
 -- whether the response to a request that starts with the byte has items

@@ -1,42 +1,24 @@
 -- Document 01, "When writing or cutting: 2, 8, 11, 14, 10", and "Strings are decoded into lent output, with 10 last": exactly what is written and what
 -- a call of reading tells, and which refusal is due else.
-use mathlib.Core.Bool.{Bool, true, false}
-use mathlib.Core.List.{List, [], _∷_, _++_, flatten, map}
-use mathlib.Core.Logic.{_↔_}
-use mathlib.Core.Path.{_≡_}
+use mathlib.Core.{Bool.Bool, Bool.true, Bool.false, List.List, List.[], List._∷_, List._++_, List.flatten, List.map, Logic._↔_, Path._≡_}
 use Prim.Native.Nat.{ℕ, _+_, _-_, _≤_, _<_}
 use lib.ListN.{length, take, drop, getD}
-use Rattle.wire.specs.Bytes.{splice}
-use Rattle.wire.specs.Call.{inRoom, outputAfter}
-use Rattle.wire.specs.Fields.{Got}
-use Rattle.wire.specs.declared.Refusal.{Refusal}
-use Rattle.wire.specs.declared.Counted.{Counted}
-use Rattle.basex_string.specs.declared.StringAt.{StringAt}
+use Rattle.wire.specs.{Bytes.if, Bytes.splice, Call.inRoom, Call.outputAfter, Fields.Got, declared.Refusal.Refusal, declared.Counted.Counted}
+use Rattle.basex_string.specs.{declared.StringAt.StringAt, Answers.outputRead, Strings.string}
 use Rattle.basex_string.specs.Answers as decoding
-use Rattle.basex_string.specs.Answers.{outputRead}
 use Rattle.basex_string.specs.Scan as strings
-use Rattle.basex_string.specs.Strings.{string}
-use Rattle.basex.specs.declared.Found.the-variants.{Known, Unknown}
-use Rattle.basex.specs.declared.Reply.{Reply}
-use Rattle.basex.specs.Kinds.{findOf, rowByte, ahead, behind, listed, isFull, idAllowed, hasUri}
+use Rattle.basex.specs.{declared.Found.the-variants.Known, declared.Found.the-variants.Unknown, declared.Reply.Reply}
+use Rattle.basex.specs.Kinds.{findOf, rowByte, ahead, errorBehind, behind, listed, isFull, idAllowed, hasUri}
+use Rattle.basex.specs.{Request.Request, Request.opens, Response.Item, Response.Response, Response.itemBytes, Response.ItemAllowed, Texts.lengthAt}
 use Rattle.basex.specs.Request as request
-use Rattle.basex.specs.Request.{Request, opens}
 use Rattle.basex.specs.Response as response
-use Rattle.basex.specs.Response.{Item, Response, itemBytes, ItemAllowed}
-use Rattle.basex.specs.Texts.{lengthAt}
-use Rattle.basex_request.specs.declared.Requested.{Requested}
-use Rattle.basex_request.specs.Calls.{padded, cut}
+use Rattle.basex_request.specs.{declared.Requested.Requested, Calls.padded, Calls.cut, Reading.kindOf, Reading.textsOf}
 use Rattle.basex_request.specs.Reading as requests
-use Rattle.basex_request.specs.Reading.{kindOf, textsOf}
 use Rattle.basex_request.specs.Writing as requesting
-use Rattle.basex_response.specs.declared.ItemAt.{ItemAt}
-use Rattle.basex_response.specs.declared.Replied.{Replied}
-use Rattle.basex_response.specs.Errors.{errorAt}
-use Rattle.basex_response.specs.Items as items
-use Rattle.basex_response.specs.Items.{itemTexts, itemAt}
-use Rattle.basex_response.specs.Reading as responses
-use Rattle.basex_response.specs.Reading.{allTexts}
+use Rattle.basex_response.specs.{declared.ItemAt.ItemAt, declared.Replied.Replied, Errors.errorAt, Items.itemTexts, Items.itemAt, Reading.allTexts}
 use Rattle.basex_response.specs.Writing.{itemOf, itemWritten, fullOf, endWritten, endBytes}
+use Rattle.basex_response.specs.Items as items
+use Rattle.basex_response.specs.Reading as responses
 use Rattle.basex_laws.specs.Calls.{uriOf, textOf}
 
 -- of texts given where n are taken, one beyond those is not empty
@@ -267,13 +249,9 @@ pub record InputSuffices : Type 0 where
   pub response-short : (kind : ℕ) (s : List ℕ) (r : Response) (rest : List ℕ) → responses.reading kind s ≡ Got.got r rest
       → length (flatten (allTexts r)) ≤ length s
 
--- which of a response's parts is the error where there is one
+-- which of a response's parts is the error where there is one: the last, behind the status, or the last of those ahead
 abbrev pub errorPart : Reply → ℕ
-errorPart Reply.Command = 1
-errorPart Reply.Create = 0
-errorPart Reply.Query = 3
-errorPart Reply.Results = 3
-errorPart Reply.Full = 3
+errorPart reply = if (errorBehind reply) 3 (ahead reply - 1)
 
 -- the one error string of a response: the last of its strings, and one of the parts that are told; its place is behind all the others
 pub record OneError (reply : Reply) (r : Response) : Type 0 where
@@ -281,7 +259,7 @@ pub record OneError (reply : Reply) (r : Response) : Type 0 where
   pub error : List ℕ
   pub one : response.errorOf reply r ≡ error ∷ []
   pub last : allTexts r ≡ front ++ (error ∷ [])
-  pub told : getD (partsOf r) (errorPart reply) [] ≡ error
+  pub part : getD (partsOf r) (errorPart reply) [] ≡ error
   pub place : errorAt reply (lengthAt (r .texts) 0) (lengthAt (r .texts) 1) (length (flatten (itemTexts (r .items)))) (lengthAt (r .error) 0)
       ≡ record { start = length (flatten front); len = length error }
 

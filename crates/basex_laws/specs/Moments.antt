@@ -1,23 +1,18 @@
 -- Document 01, "BaseX", "Order: 1 for no byte, 2, then fields left to right: 1, 8, and 13 as soon as the pair is there": which refusal is given, said by
 -- the encodings alone.
-use mathlib.Core.Bool.{Bool, true, false}
-use mathlib.Core.List.{List, [], _∷_, _++_}
-use mathlib.Core.Logic.{_↔_, _≢_}
-use mathlib.Core.Path.{_≡_}
+use mathlib.Core.{Bool.Bool, Bool.true, Bool.false, List.List, List.[], List._∷_, List._++_, Logic._↔_, Logic._≢_, Path._≡_}
 use Prim.Native.Nat.{ℕ, _<_}
 use lib.ListN.{length}
-use Rattle.wire.specs.Fields.{Got}
-use Rattle.wire.specs.declared.Refusal.{Refusal}
+use Rattle.wire.specs.{Fields.Got, declared.Refusal.Refusal}
 use Rattle.wire.specs.declared.Refusal.the-variants.{MoreBytes, UnknownInstruction, ValueNotAllowed, BadEscape}
 use Rattle.basex_string.specs.Strings.{special, escaped, string}
 use Rattle.basex_string.specs.Scan as scan
-use Rattle.basex.specs.declared.Found.the-variants.{Known, Unknown}
-use Rattle.basex.specs.declared.Reply.{Reply}
+use Rattle.basex.specs.{declared.Found.the-variants.Known, declared.Found.the-variants.Unknown, declared.Reply.Reply}
 use Rattle.basex.specs.Kinds.{startsCommand, findOf, isCommand, ahead, behind, listed, isFull, idAllowed, itemStrings, statusAllowed}
-use Rattle.basex.specs.Request as request
-use Rattle.basex.specs.Response as response
 use Rattle.basex.specs.Response.{Item, itemBytes, itemsBytes, listBytes, ItemAllowed, ItemsAllowed, ListAllowed}
 use Rattle.basex.specs.Texts.{strings}
+use Rattle.basex.specs.Request as request
+use Rattle.basex.specs.Response as response
 use Rattle.basex_request.specs.Reading as requests
 use Rattle.basex_response.specs.Items.{Next, next}
 use Rattle.basex_response.specs.Reading as responses

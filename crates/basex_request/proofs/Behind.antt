@@ -25,7 +25,8 @@ texts-behind : (n : ℕ) (s more : List ℕ) → texts n s ≡ Got.refused BadEs
 texts-behind zero s more e = let z : Got.got [] s ≡ Got.refused BadEscape = sym (texts-none s) ∙ e in let y : _≡_ {A = ℕ} 0 1 = cc in absurd (omega arith)
 texts-behind (suc n) s more e = by (λ (l : List ℕ). texts-behind n l more) (strings.reading s) refl
   where
-    by : ((l : List ℕ) → texts n l ≡ Got.refused BadEscape → texts n (l ++ more) ≡ Got.refused BadEscape) → (x : Got (List ℕ)) → strings.reading s ≡ x → texts (suc n) (s ++ more) ≡ Got.refused BadEscape
+    by : ((l : List ℕ) → texts n l ≡ Got.refused BadEscape → texts n (l ++ more) ≡ Got.refused BadEscape) → (x : Got (List ℕ)) → strings.reading s ≡ x
+        → texts (suc n) (s ++ more) ≡ Got.refused BadEscape
     by i (Got.refused q) p =
         let g : Got.refused q ≡ Got.refused BadEscape = sym (texts-refused n s q p) ∙ e in
         let z : q ≡ BadEscape = cc in
@@ -34,7 +35,8 @@ texts-behind (suc n) s more e = by (λ (l : List ℕ). texts-behind n l more) (s
         let f = ap strings.reading (ap (λ (l : List ℕ). l ++ more) (exact s t rest p) ∙ append-assoc (string t) rest more) ∙ read-written t (rest ++ more) in
         then (texts n rest) refl (sym (texts-more n s t rest p) ∙ e) f
       where
-        then : (x : Got (List (List ℕ))) → texts n rest ≡ x → goOn x (λ ts. give (t ∷ ts)) ≡ Got.refused BadEscape → strings.reading (s ++ more) ≡ Got.got t (rest ++ more) → texts (suc n) (s ++ more) ≡ Got.refused BadEscape
+        then : (x : Got (List (List ℕ))) → texts n rest ≡ x → goOn x (λ ts. give (t ∷ ts)) ≡ Got.refused BadEscape → strings.reading (s ++ more) ≡ Got.got t (rest ++ more)
+            → texts (suc n) (s ++ more) ≡ Got.refused BadEscape
         then (Got.refused q) h g f =
             let z : q ≡ BadEscape = cc in
             texts-more n (s ++ more) t (rest ++ more) f ∙ rw (i rest (h ∙ ap Got.refused z)) refl
@@ -53,7 +55,8 @@ refused-behind (b ∷ s) more r h e = by (findOf b) e
     by Unknown p = p
     by (Known n reply) p = which (isCommand reply) p
       where
-        which : (c : Bool) → if c (goOn (strings.reading (b ∷ s)) (λ t. give (Request.command t))) (goOn (texts n s) (λ ts. give (Request.coded b ts))) ≡ Got.refused r → if c (goOn (strings.reading (b ∷ (s ++ more))) (λ t. give (Request.command t))) (goOn (texts n (s ++ more)) (λ ts. give (Request.coded b ts))) ≡ Got.refused r
+        which : (c : Bool) → if c (goOn (strings.reading (b ∷ s)) (λ t. give (Request.command t))) (goOn (texts n s) (λ ts. give (Request.coded b ts))) ≡ Got.refused r
+            → if c (goOn (strings.reading (b ∷ (s ++ more))) (λ t. give (Request.command t))) (goOn (texts n (s ++ more)) (λ ts. give (Request.coded b ts))) ≡ Got.refused r
         which true g =
             let q = refused-before r (strings.reading (b ∷ s)) Request.command g in
             let z = bad (refuses (b ∷ s) r q) in

@@ -51,7 +51,8 @@ opened [] rest s b e h = let x : b ≡ 0 = cc in sym (ap startsCommand x) ∙ h
 opened (x ∷ t) rest s b e h = by (special x) refl
   where
     by : (f : Bool) → special x ≡ f → startsCommand x ≡ true
-    by true p = let q : b ∷ s ≡ 255 ∷ x ∷ (string t ++ rest) = rw p at e in let y : b ≡ 255 = cc in let z : false ≡ true = sym (ap startsCommand y) ∙ h in let o : _≡_ {A = ℕ} 0 1 = cc in absurd (omega arith)
+    by true p = let q : b ∷ s ≡ 255 ∷ x ∷ (string t ++ rest) = rw p at e in let y : b ≡ 255 = cc in let z : false ≡ true = sym (ap startsCommand y) ∙ h in
+        let o : _≡_ {A = ℕ} 0 1 = cc in absurd (omega arith)
     by false p = let q : b ∷ s ≡ x ∷ (string t ++ rest) = rw p at e in let y : b ≡ x = cc in sym (ap startsCommand y) ∙ h
 
 abbrev Exactly : List ℕ → Request → List ℕ → Type 0
@@ -62,7 +63,8 @@ unfolding reading encode
 read-published [] q rest e = let z : _≡_ {A = ℕ} 0 1 = cc in absurd (omega arith)
 read-published (b ∷ s) q rest e = by (findOf b) refl e
   where
-    command : (n : ℕ) (reply : Reply) → findOf b ≡ Known n reply → isCommand reply ≡ true → (x : Got (List ℕ)) → strings.reading (b ∷ s) ≡ x → goOn x (λ t. give (Request.command t)) ≡ Got.got q rest → Exactly (b ∷ s) q rest
+    command : (n : ℕ) (reply : Reply) → findOf b ≡ Known n reply → isCommand reply ≡ true → (x : Got (List ℕ)) → strings.reading (b ∷ s) ≡ x
+        → goOn x (λ t. give (Request.command t)) ≡ Got.got q rest → Exactly (b ∷ s) q rest
     command n reply f c (Got.refused r) p g = let z : _≡_ {A = ℕ} 0 1 = cc in absurd (omega arith)
     command n reply f c (Got.got t more) p g =
         let x = string-laws.exact (b ∷ s) t more p in
@@ -70,7 +72,8 @@ read-published (b ∷ s) q rest e = by (findOf b) refl e
         let l : more ≡ rest = cc in
         subst (λ (r : Request). Exactly (b ∷ s) r rest) k (opened t more s b x (command-starts b n reply f c), x ∙ ap (λ (m : List ℕ). string t ++ m) l)
 
-    coded : (n : ℕ) (reply : Reply) → findOf b ≡ Known n reply → isCommand reply ≡ false → (x : Got (List (List ℕ))) → texts n s ≡ x → goOn x (λ ts. give (Request.coded b ts)) ≡ Got.got q rest → Exactly (b ∷ s) q rest
+    coded : (n : ℕ) (reply : Reply) → findOf b ≡ Known n reply → isCommand reply ≡ false → (x : Got (List (List ℕ))) → texts n s ≡ x
+        → goOn x (λ ts. give (Request.coded b ts)) ≡ Got.got q rest → Exactly (b ∷ s) q rest
     coded n reply f c (Got.refused r) p g = let z : _≡_ {A = ℕ} 0 1 = cc in absurd (omega arith)
     coded n reply f c (Got.got ts more) p g =
         let x = texts-exact n s ts more p in
@@ -82,7 +85,8 @@ read-published (b ∷ s) q rest e = by (findOf b) refl e
     by Unknown p g = let z : _≡_ {A = ℕ} 0 1 = cc in absurd (omega arith)
     by (Known n reply) p g = which (isCommand reply) refl g
       where
-        which : (c : Bool) → isCommand reply ≡ c → if c (goOn (strings.reading (b ∷ s)) (λ t. give (Request.command t))) (goOn (texts n s) (λ ts. give (Request.coded b ts))) ≡ Got.got q rest → Exactly (b ∷ s) q rest
+        which : (c : Bool) → isCommand reply ≡ c → if c (goOn (strings.reading (b ∷ s)) (λ t. give (Request.command t))) (goOn (texts n s) (λ ts. give (Request.coded b ts)))
+            ≡ Got.got q rest → Exactly (b ∷ s) q rest
         which true c g = command n reply p c (strings.reading (b ∷ s)) refl g
         which false c g = coded n reply p c (texts n s) refl g
 

@@ -37,7 +37,8 @@ texts-split zero n s = let z : 0 + n ≡ n = omega arith in rw z (by (texts n s)
     by (Got.got ts rest) = refl
 texts-split (suc m) n s = rw (suc-add m n) (by (texts-split m n) (scan.reading s))
   where
-    then : (t : List ℕ) (x : Got (List (List ℕ))) → goOn (goOn x (λ ts more. behind ts (texts n more))) (λ ts. give (t ∷ ts)) ≡ goOn (goOn x (λ ts. give (t ∷ ts))) (λ ts more. behind ts (texts n more))
+    then : (t : List ℕ) (x : Got (List (List ℕ))) → goOn (goOn x (λ ts more. behind ts (texts n more))) (λ ts. give (t ∷ ts)) ≡ goOn (goOn x (λ ts. give (t ∷ ts)))
+        (λ ts more. behind ts (texts n more))
     then t (Got.refused r) = refl
     then t (Got.got ts more) = last (texts n more)
       where
@@ -45,7 +46,8 @@ texts-split (suc m) n s = rw (suc-add m n) (by (texts-split m n) (scan.reading s
         last (Got.refused r) = refl
         last (Got.got us rest) = refl
 
-    by : ((more : List ℕ) → texts (m + n) more ≡ goOn (texts m more) (λ ts last. behind ts (texts n last))) → (x : Got (List ℕ)) → goOn x (λ t more. goOn (texts (m + n) more) (λ ts. give (t ∷ ts))) ≡ goOn (goOn x (λ t more. goOn (texts m more) (λ ts. give (t ∷ ts)))) (λ ts more. behind ts (texts n more))
+    by : ((more : List ℕ) → texts (m + n) more ≡ goOn (texts m more) (λ ts last. behind ts (texts n last))) → (x : Got (List ℕ))
+        → goOn x (λ t more. goOn (texts (m + n) more) (λ ts. give (t ∷ ts))) ≡ goOn (goOn x (λ t more. goOn (texts m more) (λ ts. give (t ∷ ts)))) (λ ts more. behind ts (texts n more))
     by i (Got.refused r) = refl
     by i (Got.got t more) = ap (λ (x : Got (List (List ℕ))). goOn x (λ ts. give (t ∷ ts))) (i more) ∙ then t (texts m more)
 
@@ -93,7 +95,8 @@ module _ (b : List ℕ) (at m : ℕ) where
 
 -- how long each of up to four texts is, told two by two
 lengths-joined : (kind from n read : ℕ) (ts us : List (List ℕ)) → length ts ≤ 2 → (length ts < 2 → length us ≡ 0)
-    → At kind from n (lengthAt ts 0) (lengthAt ts 1) (lengthAt us 0) (lengthAt us 1) read ≡ At kind from n (lengthAt (ts ++ us) 0) (lengthAt (ts ++ us) 1) (lengthAt (ts ++ us) 2) (lengthAt (ts ++ us) 3) read
+    → At kind from n (lengthAt ts 0) (lengthAt ts 1) (lengthAt us 0) (lengthAt us 1) read ≡ At kind from n (lengthAt (ts ++ us) 0) (lengthAt (ts ++ us) 1)
+    (lengthAt (ts ++ us) 2) (lengthAt (ts ++ us) 3) read
 lengths-joined kind from n read [] [] h k = refl
 lengths-joined kind from n read [] (u ∷ us) h k = let z : length (u ∷ us) ≡ 0 = k (omega arith) in absurd (omega arith)
 lengths-joined kind from n read (t ∷ []) [] h k = refl
@@ -109,12 +112,14 @@ module _ (b : List ℕ) (kind from n : ℕ) (h : n ≤ 4) where
   strings-refused r e = let q = not-two b from (min n 2) r e in rw split (rw q refl)
 
   module _ (first second next : ℕ) (f : Two b from (min n 2) first second next) where
-    pub others-refused : (r : Refusal) → two-at.Refused r ≡ twoAt next (length b - next) (texts (min (n - 2) 2) (drop next b)) → Refused r ≡ stringsFrom kind from (length b - from) (texts n (drop from b))
+    pub others-refused : (r : Refusal) → two-at.Refused r ≡ twoAt next (length b - next) (texts (min (n - 2) 2) (drop next b))
+        → Refused r ≡ stringsFrom kind from (length b - from) (texts n (drop from b))
     others-refused r e =
         let q : texts (min (n - 2) 2) (f .rest) ≡ Got.refused r = ap (texts (min (n - 2) 2)) (sym (f .there)) ∙ not-two b next (min (n - 2) 2) r e in
         rw split (rw (f .got) (rw q refl))
 
-    pub strings-well : (third fourth read : ℕ) → Two b next (min (n - 2) 2) third fourth read → At kind from n first second third fourth read ≡ stringsFrom kind from (length b - from) (texts n (drop from b))
+    pub strings-well : (third fourth read : ℕ) → Two b next (min (n - 2) 2) third fourth read
+        → At kind from n first second third fourth read ≡ stringsFrom kind from (length b - from) (texts n (drop from b))
     strings-well third fourth read g =
         let q : texts (min (n - 2) 2) (f .rest) ≡ Got.got (g .ts) (g .rest) = ap (texts (min (n - 2) 2)) (sym (f .there)) ∙ g .got in
         let c : length (f .ts ++ g .ts) ≡ n = let x = f .count in let y = g .count in length-append (f .ts) (g .ts) ∙ omega arith in

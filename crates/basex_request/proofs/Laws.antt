@@ -92,7 +92,9 @@ accepted s out kind a b c d n e = by (reading s) refl e
     by (Got.refused r) p g = let z : _≡_ {A = ℕ} 0 1 = cc in absurd (omega arith)
     by (Got.got q rest) p g = room (ltb (length out) (length (flatten (textsOf q)))) refl g
       where
-        room : (f : Bool) → ltb (length out) (length (flatten (textsOf q))) ≡ f → if f (requested-as.Refused NoRoom) (Read (kindOf q) (lengthAt (textsOf q) 0) (lengthAt (textsOf q) 1) (lengthAt (textsOf q) 2) (lengthAt (textsOf q) 3) (length s - length rest)) ≡ Read kind a b c d n → Accepted s out kind a b c d n
+        room : (f : Bool) → ltb (length out) (length (flatten (textsOf q))) ≡ f
+            → if f (requested-as.Refused NoRoom) (Read (kindOf q) (lengthAt (textsOf q) 0) (lengthAt (textsOf q) 1) (lengthAt (textsOf q) 2) (lengthAt (textsOf q) 3)
+            (length s - length rest)) ≡ Read kind a b c d n → Accepted s out kind a b c d n
         room true f g = let z : _≡_ {A = ℕ} 0 1 = cc in absurd (omega arith)
         room false f g =
             let h = ltb-false (length out) (length (flatten (textsOf q))) f in
@@ -108,13 +110,16 @@ accepted s out kind a b c d n e = by (reading s) refl e
               got = p;
               named = cc;
               count = cc;
-              handed = rw (p, sym i, sym j, sym k, sym m) (ap (λ (o : List ℕ). cut o (lengthAt (textsOf q) 0) (lengthAt (textsOf q) 1) (lengthAt (textsOf q) 2) (lengthAt (textsOf q) 3)) l ∙ cut-flatten (textsOf q) (drop (length (flatten (textsOf q))) out));
+              handed = rw (p, sym i, sym j, sym k, sym m) (ap
+                  (λ (o : List ℕ). cut o (lengthAt (textsOf q) 0) (lengthAt (textsOf q) 1) (lengthAt (textsOf q) 2) (lengthAt (textsOf q) 3)) l
+                  ∙ cut-flatten (textsOf q) (drop (length (flatten (textsOf q))) out));
             }
 
 -- what a call of reading handed over is written as the bytes that it read
 pub rewritten : (s out : List ℕ) (kind a b c d n : ℕ) → requested (length s) (length out) (reading s) ≡ Read kind a b c d n → (to : List ℕ) → n ≤ length to
     → (written (length to) kind (cut (outputRead textBytes out 0 (reading s)) a b c d) ≡ Count n)
-    × (outputAfter (written (length to) kind (cut (outputRead textBytes out 0 (reading s)) a b c d)) to 0 (bytesOf kind (cut (outputRead textBytes out 0 (reading s)) a b c d)) ≡ splice to 0 (take n s))
+    × (outputAfter (written (length to) kind (cut (outputRead textBytes out 0 (reading s)) a b c d)) to 0 (bytesOf kind (cut (outputRead textBytes out 0 (reading s)) a b c d))
+    ≡ splice to 0 (take n s))
 rewritten s out kind a b c d n e to h = let x = accepted s out kind a b c d n e in by (x .request) (x .rest) (x .got) _ (x .handed) (x .named) (x .count)
   where
     by : (q : Request) (rest : List ℕ) → reading s ≡ Got.got q rest → (ts : List (List ℕ)) → ts ≡ padded (textsOf q) → kind ≡ kindOf q → n ≡ length s - length rest

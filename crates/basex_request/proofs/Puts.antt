@@ -1,18 +1,16 @@
 -- What writing answers, and what it leaves in the output.
 use mathlib.Core.Path.{_≡_, refl, sym, ap, subst, _∙_}
 use mathlib.Core.List.{List, [], _∷_, _++_}
-use mathlib.Core.Bool.{Bool, true, false}
-use Prim.Native.Nat.{ℕ, suc, _+_, _-_, _≤_, _<_}
+use mathlib.Core.Bool.{true, false}
+use Prim.Native.Nat.{ℕ, suc, _+_, _≤_}
 use native.Mathlib.Omega.{arith}
-use lib.Dec.{ltb, leb}
+use lib.Dec.{ltb}
 use lib.ListN.{length, getD, take, length-append}
-use borrow.Author.Tests.{le-ltb, le-leb, lt-leb, leb-true, leb-false}
-use Rattle.wire.specs.Bytes.{if}
 use Rattle.wire.specs.Call.{inRoom, putAt, Gives, Writes}
 use Rattle.wire.specs.declared.Refusal.{Refusal}
-use Rattle.wire.specs.declared.Refusal.the-variants.{UnknownInstruction, ValueNotAllowed, NoRoom, NoEncoding}
-use Rattle.wire.proofs.Call.{room-there, room-short}
-use Rattle.wire.proofs.Splices.{Ahead, start, splice-none, putAt-fits}
+use Rattle.wire.specs.declared.Refusal.the-variants.{UnknownInstruction, ValueNotAllowed, NoEncoding}
+use Rattle.wire.proofs.Call.{room-there, room-short, refused-short}
+use Rattle.wire.proofs.Splices.{Ahead, start, putAt-fits}
 use Rattle.basex_string.proofs.Room.{writes-not, writes-all}
 use Rattle.basex_string.specs.Strings.{string}
 use Rattle.wire.specs.declared.Counted.{Counted}
@@ -21,7 +19,7 @@ use Rattle.basex.specs.declared.Found.the-variants.{Known, Unknown}
 use Rattle.basex.specs.declared.Reply.{Reply}
 use Rattle.basex.specs.Kinds.{startsCommand, findOf, isCommand}
 use Rattle.basex.specs.Request.{Request, encode, opens}
-use Rattle.basex.specs.Texts.{strings, unused}
+use Rattle.basex.specs.Texts.{stringIf, unused}
 use Rattle.basex_request.specs.Writing.{firstOf, requestOf, requestWritten, written, bytesOf}
 use Rattle.basex_request.specs.Calls.{four}
 use Rattle.basex_request.proofs.Taken.{taken-strings}
@@ -46,56 +44,23 @@ module _ (out t : List ℕ) where
   pub command-not : opens t ≡ false → WritesCommand (Refused NoEncoding) out
   command-not o = rw o (record { answers = refl; leaves = refl })
 
--- the string of a text that is taken, where it fits
-module _ (out : List ℕ) (at : ℕ) (t : List ℕ) where
-  pub taken-put : (taken : Bool) → taken ≡ true → at + length (if taken (string t) []) ≤ length out → (n : ℕ) → inRoom (length out) at (length (string t)) ≡ Count n
-      → (n ≡ length (if taken (string t) [])) × (string t ≡ if taken (string t) [])
-  taken-put true e h n p =
-      let q : Count (length (string t)) ≡ Count n = rw (le-ltb (length out) (at + length (string t)) h) at p in
-      ((cc), refl)
-  taken-put false e h n p = let z : _≡_ {A = ℕ} 0 1 = cc in absurd (omega arith)
-
-  pub taken-fits : (taken : Bool) → taken ≡ true → at + length (if taken (string t) []) ≤ length out → (r : Refusal) → inRoom (length out) at (length (string t)) ≡ Refused r → ⊥
-  taken-fits true e h r p =
-      let q : Count (length (string t)) ≡ Refused r = rw (le-ltb (length out) (at + length (string t)) h) at p in
-      let z : _≡_ {A = ℕ} 0 1 = cc in
-      omega arith
-  taken-fits false e h r p = let z : _≡_ {A = ℕ} 0 1 = cc in omega arith
-
-  pub untaken : (taken : Bool) → taken ≡ false → at + length (if taken (string t) []) ≤ length out
-      → Gives (at + length (if taken (string t) [])) (putAt out at (if taken (string t) [])) at out
-  untaken true e h = let z : _≡_ {A = ℕ} 0 1 = cc in absurd (omega arith)
-  untaken false e h = record { answers = omega arith; leaves = sym (putAt-fits out at [] h ∙ splice-none out at) }
-
-pub strings-not : (ts : List (List ℕ)) (n room : ℕ) → room < length (strings (take n ts)) → false ≡ leb (length (strings (take n ts))) room
-strings-not ts n room h = sym (lt-leb (length (strings (take n ts))) room h)
-
--- four sizes counted down from the room
-pub counted-down : (room a b c d : ℕ) → a ≤ room → b ≤ room - a → c ≤ room - a - b → leb d (room - a - b - c) ≡ leb (a + (b + (c + d))) room
-counted-down room a b c d h k l = by (leb d (room - a - b - c)) refl
-  where
-    by : (f : Bool) → leb d (room - a - b - c) ≡ f → f ≡ leb (a + (b + (c + d))) room
-    by true e = let z = leb-true d (room - a - b - c) e in sym (le-leb (a + (b + (c + d))) room (omega arith))
-    by false e = let z = leb-false d (room - a - b - c) e in sym (lt-leb (a + (b + (c + d))) room (omega arith))
-
--- the first of what is ahead has room
-pub ahead-room : {t d : List ℕ} {at : ℕ} (x rest : List ℕ) → Ahead t d at (x ++ rest) → at + length x ≤ length d
-ahead-room x rest a = let l = length-append x rest in let f = a .fits in omega arith
-
 -- a kind's first byte and strings
 module _ (a b c d : List ℕ) (kind n : ℕ) where
   abbrev request : Request
   request = Request.coded kind (take n (four a b c d))
 
-  pub coded-length : length (encode request) ≡ suc (length (strings (take n (four a b c d))))
+  pub coded-length : length (encode request) ≡ suc (length (stringIf (ltb 0 n) a) + (length (stringIf (ltb 1 n) b) + (length (stringIf (ltb 2 n) c) + length (stringIf (ltb 3 n) d))))
   unfolding encode
-  coded-length = refl
+  coded-length = ap suc (ap length (taken-strings a b c d n) ∙ simp length-append)
 
   abbrev WritesCoded : List ℕ → Counted → List ℕ → Type 0
   WritesCoded out = Writes (requestWritten (length out) request) out 0 (encode request)
 
-  pub coded-not : (out : List ℕ) → length out < length (encode request) → WritesCoded out (Refused NoRoom) out
-  coded-not out h = writes-not out 0 (encode request) refl (room-short (length out) 0 (length (encode request)) (omega arith))
+  pub coded-not : (out : List ℕ) (k : ℕ) {r : Refusal} → length (encode request) ≡ 1 + k → inRoom (length out) 1 k ≡ Refused r → WritesCoded out (Refused r) out
+  coded-not out k {r} e f =
+      let h = refused-short (length out) 1 k r f in
+      let l = h .1 in
+      writes-not out 0 (encode request) refl (room-short (length out) 0 (length (encode request)) (omega arith) ∙ ap Refused (sym (h .0)))
 
   pub coded-put : (out : List ℕ) {k : ℕ} {after : List ℕ} → length (encode request) ≤ length out
       → Gives (length (encode request)) (putAt out 0 (encode request)) k after → WritesCoded out (Count k) after
@@ -105,11 +70,11 @@ module _ (a b c d : List ℕ) (kind n : ℕ) where
 
   -- nothing was written yet: the first byte is ahead, and the strings that are taken
   pub coded-ahead : (out : List ℕ) → length (encode request) ≤ length out
-      → Ahead (putAt out 0 (encode request)) out 0 ((kind ∷ []) ++ (if (ltb 0 n) (string a) [] ++ (if (ltb 1 n) (string b) [] ++ (if (ltb 2 n) (string c) [] ++ if (ltb 3 n) (string d) []))))
+      → Ahead (putAt out 0 (encode request)) out 0 ((kind ∷ []) ++ (stringIf (ltb 0 n) a ++ (stringIf (ltb 1 n) b ++ (stringIf (ltb 2 n) c ++ stringIf (ltb 3 n) d))))
   unfolding encode
   coded-ahead out h =
       let z : 0 + length (encode request) ≤ length out = omega arith in
-      let x : encode request ≡ kind ∷ (if (ltb 0 n) (string a) [] ++ (if (ltb 1 n) (string b) [] ++ (if (ltb 2 n) (string c) [] ++ if (ltb 3 n) (string d) []))) = ap (λ (m : List ℕ). kind ∷ m) (taken-strings a b c d n) in
+      let x : encode request ≡ kind ∷ (stringIf (ltb 0 n) a ++ (stringIf (ltb 1 n) b ++ (stringIf (ltb 2 n) c ++ stringIf (ltb 3 n) d))) = ap (λ (m : List ℕ). kind ∷ m) (taken-strings a b c d n) in
       subst (Ahead (putAt out 0 (encode request)) out 0) x (subst (λ (m : List ℕ). Ahead m out 0 (encode request)) (sym (putAt-fits out 0 (encode request) z)) (start out 0 (encode request) z))
 
 -- what the table makes of a kind

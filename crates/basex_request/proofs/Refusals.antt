@@ -9,11 +9,11 @@ use lib.Dec.{ltb}
 use lib.ListN.{length}
 use borrow.Author.Tests.{ltb-true}
 use Rattle.wire.specs.Bytes.{if}
-use Rattle.wire.specs.Call.{inRoom, outputAfter}
+use Rattle.wire.specs.Call.{inRoom}
 use Rattle.wire.specs.Fields.{Got, goOn, give}
 use Rattle.wire.specs.declared.Refusal.{Refusal}
 use Rattle.wire.specs.declared.Refusal.the-variants.{MoreBytes, UnknownInstruction, ValueNotAllowed, NoRoom, NoEncoding, BadEscape}
-use Rattle.wire.proofs.Call.{refused-short, refused-leaves}
+use Rattle.wire.proofs.Call.{refused-short}
 use Rattle.wire.proofs.Splices.{putAt-not}
 use Rattle.basex_string.specs.Answers.{outputRead}
 use Rattle.basex_string.specs.Scan as strings
@@ -56,14 +56,17 @@ reading-refuses (b ∷ s) r e = by (findOf b) e
         which false g = string (texts-refuses n s r (refused-before r (texts n s) (Request.coded b) g))
 
 -- .. or 10
-pub read-refuses : (s out : List ℕ) (r : Refusal) → read.requested (length s) (length out) (read.reading s) ≡ requested-as.Refused r → (InReading r ⊎ (r ≡ NoRoom)) × (outputRead read.textBytes out 0 (read.reading s) ≡ out)
+pub read-refuses : (s out : List ℕ) (r : Refusal) → read.requested (length s) (length out) (read.reading s) ≡ requested-as.Refused r → (InReading r ⊎ (r ≡ NoRoom))
+    × (outputRead read.textBytes out 0 (read.reading s) ≡ out)
 read-refuses s out r e = by (read.reading s) refl e
   where
     by : (x : Got Request) → read.reading s ≡ x → read.requested (length s) (length out) x ≡ requested-as.Refused r → (InReading r ⊎ (r ≡ NoRoom)) × (outputRead read.textBytes out 0 x ≡ out)
     by (Got.refused q) p g = let z : q ≡ r = cc in (inl (reading-refuses s r (p ∙ ap Got.refused z)), refl)
-    by (Got.got q rest) p g = room (ltb (length out) (length (flatten (read.textsOf q)))) refl (read.kindOf q) (lengthAt (read.textsOf q) 0) (lengthAt (read.textsOf q) 1) (lengthAt (read.textsOf q) 2) (lengthAt (read.textsOf q) 3) (length s - length rest) g
+    by (Got.got q rest) p g = room (ltb (length out) (length (flatten (read.textsOf q)))) refl (read.kindOf q) (lengthAt (read.textsOf q) 0) (lengthAt (read.textsOf q) 1)
+        (lengthAt (read.textsOf q) 2) (lengthAt (read.textsOf q) 3) (length s - length rest) g
       where
-        room : (f : Bool) → ltb (length out) (length (flatten (read.textsOf q))) ≡ f → (kind a b c d n : ℕ) → if f (requested-as.Refused NoRoom) (requested-as.Read kind a b c d n) ≡ requested-as.Refused r → (InReading r ⊎ (r ≡ NoRoom)) × (outputRead read.textBytes out 0 (Got.got q rest) ≡ out)
+        room : (f : Bool) → ltb (length out) (length (flatten (read.textsOf q))) ≡ f → (kind a b c d n : ℕ)
+            → if f (requested-as.Refused NoRoom) (requested-as.Read kind a b c d n) ≡ requested-as.Refused r → (InReading r ⊎ (r ≡ NoRoom)) × (outputRead read.textBytes out 0 (Got.got q rest) ≡ out)
         room true f kind a b c d n g =
             let z : NoRoom ≡ r = cc in
             let y = ltb-true (length out) (length (flatten (read.textsOf q))) f in
@@ -75,19 +78,18 @@ read-refuses s out r e = by (read.reading s) refl e
 abbrev pub InWriting : Refusal → Type 0
 InWriting r = (r ≡ UnknownInstruction) ⊎ ((r ≡ ValueNotAllowed) ⊎ ((r ≡ NoEncoding) ⊎ (r ≡ NoRoom)))
 
-pub write-refuses : (out : List ℕ) (kind : ℕ) (ts : List (List ℕ)) (r : Refusal) → write.written (length out) kind ts ≡ counted.Refused r
-    → InWriting r × (outputAfter (write.written (length out) kind ts) out 0 (write.bytesOf kind ts) ≡ out)
+pub write-refuses : (room kind : ℕ) (ts : List (List ℕ)) (r : Refusal) → write.written room kind ts ≡ counted.Refused r → InWriting r
 unfolding write.written
-write-refuses out kind ts r e = (by (findOf kind) e, refused-leaves _ r out 0 (write.bytesOf kind ts) e)
+write-refuses room kind ts r e = by (findOf kind) e
   where
-    opens : (f : Bool) (n : ℕ) → if f (inRoom (length out) 0 n) (counted.Refused NoEncoding) ≡ counted.Refused r → InWriting r
-    opens true n p = inr (inr (inr (refused-short (length out) 0 n r p .0)))
+    opens : (f : Bool) (n : ℕ) → if f (inRoom room 0 n) (counted.Refused NoEncoding) ≡ counted.Refused r → InWriting r
+    opens true n p = inr (inr (inr (refused-short room 0 n r p .0)))
     opens false n p = let z : NoEncoding ≡ r = cc in inr (inr (inl (sym z)))
 
-    takes : (f : Bool) (q : Request) → if f (write.requestWritten (length out) q) (counted.Refused ValueNotAllowed) ≡ counted.Refused r → InWriting r
+    takes : (f : Bool) (q : Request) → if f (write.requestWritten room q) (counted.Refused ValueNotAllowed) ≡ counted.Refused r → InWriting r
     takes true q p = opens (write.encodable q) (length (encode q)) p
     takes false q p = let z : ValueNotAllowed ≡ r = cc in inr (inl (sym z))
 
-    by : (f : Found) → write.writtenAs (length out) kind f ts ≡ counted.Refused r → InWriting r
+    by : (f : Found) → write.writtenAs room kind f ts ≡ counted.Refused r → InWriting r
     by Unknown p = let z : UnknownInstruction ≡ r = cc in inl (sym z)
     by (Known n reply) p = takes (unused n ts) (write.requestOf kind n reply ts) p

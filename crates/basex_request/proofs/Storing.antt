@@ -1,6 +1,6 @@
 -- A request that reads well, its texts stored one behind the other.
 use mathlib.Core.Path.{_≡_, refl, sym, ap, _∙_}
-use mathlib.Core.List.{List, [], _∷_, _++_, flatten}
+use mathlib.Core.List.{List, [], _∷_, _++_, flatten, flatMap}
 use Prim.Native.Nat.{ℕ, _+_, _-_, _≤_, _<_}
 use native.Mathlib.Omega.{arith}
 use lib.ListN.{length, drop, length-append}
@@ -37,7 +37,7 @@ strings-stand (Request.coded b ts) rest = texts-written ts rest
 
 -- texts are shorter than their strings
 texts-short : (ts : List (List ℕ)) → length (flatten ts) ≤ length (strings ts)
-unfolding flatten strings
+unfolding flatten flatMap
 texts-short [] = omega arith
 texts-short (t ∷ ts) =
     let i = texts-short ts in
@@ -75,7 +75,8 @@ module _ (s : List ℕ) where
       by (Got.refused q) p = let z : q ≡ r = cc in ap Got.refused z
       by (Got.got q rest) p = let z : _≡_ {A = ℕ} 0 1 = cc in absurd (omega arith)
 
-  pub whole : (kind from n first second third fourth read : ℕ) → request-at.At kind from n first second third fourth read ≡ requestAt (length s) (reading s) → Whole s kind from n first second third fourth read
+  pub whole : (kind from n first second third fourth read : ℕ) → request-at.At kind from n first second third fourth read ≡ requestAt (length s) (reading s)
+      → Whole s kind from n first second third fourth read
   whole kind from n first second third fourth read e = by (reading s) refl e
     where
       by : (x : Got Request) → reading s ≡ x → request-at.At kind from n first second third fourth read ≡ requestAt (length s) x → Whole s kind from n first second third fourth read

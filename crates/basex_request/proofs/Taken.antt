@@ -1,6 +1,6 @@
 -- Which of four texts a kind takes, and their strings one behind the other.
-use mathlib.Core.Path.{_≡_, refl, sym, ap, _∙_}
-use mathlib.Core.List.{List, [], _∷_, _++_, flatten, append-nil}
+use mathlib.Core.Path.{_≡_, refl, sym}
+use mathlib.Core.List.{List, [], _∷_, _++_, flatten, append-nil, flatMap}
 use mathlib.Core.Bool.{Bool, true, false}
 use Prim.Native.Nat.{ℕ, zero, suc, _+_, _≤_, _<_}
 use native.Mathlib.Omega.{arith}
@@ -8,9 +8,7 @@ use lib.Dec.{ltb, eqb}
 use lib.ListN.{length, take, drop, length-append}
 use lib.Seq.{take-nil}
 use borrow.Author.Tests.{lt-ltb, eq-eqb, ne-eqb, eqb-true, eqb-false}
-use Rattle.wire.specs.Bytes.{if}
-use Rattle.basex_string.specs.Strings.{string}
-use Rattle.basex.specs.Texts.{strings, unused, lengthAt}
+use Rattle.basex.specs.Texts.{stringIf, strings, unused, lengthAt}
 use Rattle.basex_request.specs.Calls.{four}
 
 -- texts beyond the first n are no longer than all of those
@@ -54,15 +52,18 @@ module _ (a b c d : List ℕ) where
       by false e = some-unused (four a b c d) n 0 (omega arith) (eqb-false (length a) 0 e)
 
   -- the strings of those that are taken
-  pub taken-strings : (n : ℕ) → strings (take n (four a b c d)) ≡ if (ltb 0 n) (string a) [] ++ (if (ltb 1 n) (string b) [] ++ (if (ltb 2 n) (string c) [] ++ if (ltb 3 n) (string d) []))
-  unfolding strings
+  pub taken-strings : (n : ℕ) → strings (take n (four a b c d)) ≡ stringIf (ltb 0 n) a ++ (stringIf (ltb 1 n) b ++ (stringIf (ltb 2 n) c ++ stringIf (ltb 3 n) d))
+  unfolding flatMap
   taken-strings zero = refl
   taken-strings (suc zero) = refl
   taken-strings (suc (suc zero)) = refl
   taken-strings (suc (suc (suc zero))) = refl
   taken-strings (suc (suc (suc (suc n)))) =
-      rw (lt-ltb 0 (suc (suc (suc (suc n)))) (omega arith), lt-ltb 1 (suc (suc (suc (suc n)))) (omega arith), lt-ltb 2 (suc (suc (suc (suc n)))) (omega arith), lt-ltb 3 (suc (suc (suc (suc n)))) (omega arith))
+      rw (
+        lt-ltb 0 (suc (suc (suc (suc n)))) (omega arith),
+        lt-ltb 1 (suc (suc (suc (suc n)))) (omega arith),
+        lt-ltb 2 (suc (suc (suc (suc n)))) (omega arith),
+        lt-ltb 3
+            (suc (suc (suc (suc n)))) (omega arith),
+      )
       (rw (take-nil {A = List ℕ} n, append-nil) refl)
-
-  pub taken-length : (n : ℕ) → length (strings (take n (four a b c d))) ≡ length (if (ltb 0 n) (string a) []) + (length (if (ltb 1 n) (string b) []) + (length (if (ltb 2 n) (string c) []) + length (if (ltb 3 n) (string d) [])))
-  taken-length n = ap length (taken-strings n) ∙ simp length-append

@@ -131,7 +131,8 @@ module _ (room kind : ℕ) (a b c d : List ℕ) (n : ℕ) where
         let z = taken-or-empty ts m 3 u in
         λ i. w i ∷ x i ∷ y i ∷ z i ∷ []
 
-    wrote : (f : Bool) → isCommand reply ≡ f → encodable (if f (Request.command a) (Request.coded kind (take m ts))) ≡ true → length (encode (if f (Request.command a) (Request.coded kind (take m ts)))) ≡ n → n ≤ room → Wrote room kind ts n
+    wrote : (f : Bool) → isCommand reply ≡ f → encodable (if f (Request.command a) (Request.coded kind (take m ts))) ≡ true
+        → length (encode (if f (Request.command a) (Request.coded kind (take m ts)))) ≡ n → n ≤ room → Wrote room kind ts n
     wrote true h o l r =
         let s = command-starts kind m reply found h in
         (Request.command a, o, rw s refl, subst (λ (k : ℕ). padded (take k ts) ≡ ts) (command-one kind m reply found h) others-empty, l, r)

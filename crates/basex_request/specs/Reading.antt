@@ -1,16 +1,11 @@
 -- Document 01, "Order: 1 for no byte, 2, then fields left to right …, with 10 last": what reading a request answers.
 use mathlib.Core.List.{List, [], _∷_, flatten}
 use Prim.Native.Nat.{ℕ, _-_}
-use lib.Dec.{ltb}
-use lib.ListN.{length}
-use Rattle.wire.specs.Bytes.{if}
-use Rattle.wire.specs.Fields.{Got, Field, goOn, give}
+use lib.{Dec.ltb, ListN.length}
+use Rattle.wire.specs.{Bytes.if, Fields.Got, Fields.Field, Fields.goOn, Fields.give}
 use Rattle.wire.specs.declared.Refusal.the-variants.{MoreBytes, UnknownInstruction, NoRoom}
 use Rattle.basex_string.specs.Scan as strings
-use Rattle.basex.specs.declared.Found.{Found}
-use Rattle.basex.specs.Kinds.{findOf, isCommand}
-use Rattle.basex.specs.Request.{Request}
-use Rattle.basex.specs.Texts.{texts, lengthAt}
+use Rattle.basex.specs.{declared.Found.Found, Kinds.findOf, Kinds.isCommand, Request.Request, Texts.texts, Texts.lengthAt}
 use Rattle.basex_request.specs.declared.Requested.{Requested}
 
 -- the fields behind the first byte b, which is text itself in a COMMAND

@@ -1,17 +1,11 @@
 -- Document 01, "When writing or cutting: 2, 8, 11, 14, 10": what writing a request answers, and its bytes.
-use mathlib.Core.Bool.{Bool, true}
-use mathlib.Core.List.{List, [], _∷_}
+use mathlib.Core.{Bool.Bool, Bool.true, List.List, List.[], List._∷_}
 use Prim.Native.Nat.{ℕ}
 use lib.ListN.{length, take}
-use Rattle.wire.specs.Bytes.{if}
-use Rattle.wire.specs.Call.{inRoom}
+use Rattle.wire.specs.{Bytes.if, Call.inRoom}
 use Rattle.wire.specs.declared.Refusal.the-variants.{UnknownInstruction, ValueNotAllowed, NoEncoding}
-use Rattle.basex.specs.declared.Found.{Found}
-use Rattle.basex.specs.declared.Reply.{Reply}
-use Rattle.basex.specs.Kinds.{findOf, isCommand}
-use Rattle.basex.specs.Request.{Request, encode, opens}
-use Rattle.basex.specs.Texts.{unused}
 use Rattle.wire.specs.declared.Counted.{Counted}
+use Rattle.basex.specs.{declared.Found.Found, declared.Reply.Reply, Kinds.findOf, Kinds.isCommand, Request.Request, Request.encode, Request.opens, Texts.unused}
 
 -- the first text, none where there is none
 abbrev pub firstOf : List (List ℕ) → List ℕ

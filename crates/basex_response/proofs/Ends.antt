@@ -1,7 +1,7 @@
 -- The end of a response: its bytes part by part, and what writing it answers.
 use mathlib.Core.Path.{_≡_, refl, sym, ap, _∙_}
 use mathlib.Core.Bool.{Bool, true, false}
-use mathlib.Core.List.{List, [], _∷_, _++_, flatten, append-nil}
+use mathlib.Core.List.{List, [], _∷_, _++_, flatten, append-nil, flatMap}
 use Prim.Native.Nat.{ℕ, zero, suc, _+_, _≤_}
 use native.Mathlib.Omega.{arith}
 use lib.Dec.{ltb, eqb, eqb·suc-zero}
@@ -15,11 +15,11 @@ use Rattle.basex_string.specs.Strings.{string}
 use Rattle.basex.specs.declared.Reply.{Reply}
 use Rattle.basex.specs.declared.Found.the-variants.{Known}
 use Rattle.basex.specs.Kinds.{findOf, ahead, behind, listed, statusAllowed}
-use Rattle.basex.specs.Response.{itemsBytes, encode}
-use Rattle.basex.specs.Texts.{strings, unused}
+use Rattle.basex.specs.Response.{encode}
+use Rattle.basex.specs.Texts.{stringIf, strings, unused}
 use Rattle.wire.specs.Call.{inRoom}
 use Rattle.basex_response.specs.Writing.{endOf, endWritten, endWrittenAs, endBytes}
-use Rattle.basex_response.specs.inner.Spelling.{stringIf, placeIf, zeroIf, aheadParts, lastParts, endParts, endAllowed}
+use Rattle.basex_response.specs.inner.Spelling.{placeIf, zeroIf, aheadParts, lastParts, endParts, endAllowed}
 use Rattle.basex_response.proofs.Fields.{ahead-few, behind-few}
 
 pub ahead-size : (n : ℕ) (first second : List ℕ) → length (aheadParts n first second) ≡ length (stringIf (ltb 0 n) first) + length (stringIf (ltb 1 n) second)
@@ -29,23 +29,24 @@ pub last-size : (list : Bool) (status n : ℕ) (error : List ℕ) → length (la
 last-size list status n error = omega (arith, length-append (zeroIf list) (status ∷ stringIf (ltb 0 n) error))
 
 two-strings : (n : ℕ) → n ≤ 2 → (first second : List ℕ) → aheadParts n first second ≡ strings (take n (first ∷ second ∷ []))
-unfolding strings
+unfolding flatMap
 two-strings zero h first second = refl
 two-strings (suc zero) h first second = refl
 two-strings (suc (suc zero)) h first second = ap (λ (m : List ℕ). string first ++ m) (sym (append-nil (string second)))
 two-strings (suc (suc (suc n))) h first second = absurd (omega arith)
 
 one-string : (n : ℕ) → n ≤ 1 → (error : List ℕ) → stringIf (ltb 0 n) error ≡ strings (take n (error ∷ []))
-unfolding strings
+unfolding flatMap
 one-string zero h error = refl
 one-string (suc zero) h error = sym (append-nil (string error))
 one-string (suc (suc n)) h error = absurd (omega arith)
 
 pub end-parts : (reply : Reply) (first second : List ℕ) (status : ℕ) (error : List ℕ) → status ≤ 1 → endParts reply first second status error ≡ encode reply (endOf reply first second status error)
-unfolding encode itemsBytes
+unfolding encode flatMap
 end-parts reply first second status error h =
     ap (λ (m : List ℕ). m ++ lastParts (listed reply) status (behind reply status) error) (two-strings (ahead reply) (ahead-few reply) first second)
-    ∙ ap (λ (m : List ℕ). strings (take (ahead reply) (first ∷ second ∷ [])) ++ (zeroIf (listed reply) ++ (status ∷ m))) (one-string (behind reply status) (let f = behind-few reply status in omega arith) error)
+    ∙ ap (λ (m : List ℕ). strings (take (ahead reply) (first ∷ second ∷ [])) ++ (zeroIf (listed reply) ++ (status ∷ m)))
+    (one-string (behind reply status) (let f = behind-few reply status in omega arith) error)
 
 -- a text without a place is empty
 both-empty : (first second : List ℕ) → eqb (length (first ++ (second ++ []))) 0 ≡ if (eqb (length first) 0) (eqb (length second) 0) false

@@ -1,7 +1,7 @@
 -- The parts of a response where they stand in a slice, and what the reader answers of them.
 use mathlib.Core.Path.{_≡_, refl, sym, ap, _∙_}
 use mathlib.Core.Bool.{Bool, true, false}
-use mathlib.Core.List.{List, [], _∷_, _++_, flatten, append-assoc}
+use mathlib.Core.List.{List, [], _∷_, _++_, flatten, append-assoc, flatMap}
 use Prim.Native.Nat.{ℕ, _+_, _-_, _≤_, _<_, min}
 use native.Mathlib.Omega.{arith}
 use lib.ListN.{length, getD, drop, drop-of-length-le, length-drop}
@@ -22,8 +22,8 @@ use Rattle.basex_response.specs.declared.Replied.the-variants as replied
 use Rattle.basex_response.specs.declared.items.ItemsAt.the-variants as items-at
 use Rattle.basex_response.specs.declared.read.EndAt.the-variants as end-at
 use Rattle.basex_response.specs.Items.{list, itemTexts}
-use Rattle.basex_response.specs.Reading.{listField, fieldsOf}
-use Rattle.basex_response.specs.inner.Judging.{itemsAt, Ending, ending, endAt, judgement}
+use Rattle.basex_response.specs.Reading.{listField, fieldsOf, judgement}
+use Rattle.basex_response.specs.inner.Judging.{itemsAt, Ending, ending, endAt}
 use Rattle.basex_response.proofs.Sizes.{Two, two-here, two-not, all-of, behind-at, behind-is}
 use Rattle.basex_response.proofs.Lists.{list-exact}
 
@@ -43,7 +43,7 @@ behind-few Full status = omega arith
 
 -- the list, or none
 pub no-list : (reply : Reply) (b : List ℕ) (at : ℕ) → listed reply ≡ false → items-at.At 0 0 at ≡ itemsAt at (length b - at) (listField reply (drop at b))
-unfolding itemTexts flatten
+unfolding flatMap flatten
 no-list reply b at e = let n : at ≡ at + (length b - at - length (drop at b)) = omega (arith, length-drop at b) in rw e (ap (items-at.At 0 0) n)
 
 pub list-field-exact : (reply : Reply) (s : List ℕ) (is : List Item) (rest : List ℕ) → listField reply s ≡ Got.got is rest → s ≡ listBytes reply is ++ rest
@@ -72,10 +72,12 @@ module _ (reply : Reply) (b : List ℕ) (at : ℕ) where
       unfolding ending
       reads x p = rw (here b at h) (rw (le-leb _ _ k) (rw (sym e, p) refl))
 
-      pub error-refused : (r : Refusal) → twoAt (at + 1) (length b - (at + 1)) (texts (min n 2) (drop (at + 1) b)) ≡ two-at.Refused r → end-at.Refused r ≡ endAt at (length b - at) (ending reply (drop at b))
+      pub error-refused : (r : Refusal) → twoAt (at + 1) (length b - (at + 1)) (texts (min n 2) (drop (at + 1) b)) ≡ two-at.Refused r
+          → end-at.Refused r ≡ endAt at (length b - at) (ending reply (drop at b))
       error-refused r t = rw (reads _ (two-not b (at + 1) n few r t)) refl
 
-      pub end-told : (first second last : ℕ) → twoAt (at + 1) (length b - (at + 1)) (texts (min n 2) (drop (at + 1) b)) ≡ two-at.At first second last → end-at.At (getD b at 0) first last ≡ endAt at (length b - at) (ending reply (drop at b))
+      pub end-told : (first second last : ℕ) → twoAt (at + 1) (length b - (at + 1)) (texts (min n 2) (drop (at + 1) b)) ≡ two-at.At first second last
+          → end-at.At (getD b at 0) first last ≡ endAt at (length b - at) (ending reply (drop at b))
       end-told first second last t =
           let w = two-here b (at + 1) n few first second last t in
           let m : last ≡ at + (length b - at - length (w .rest)) = let k = w .ends in let l = w .whole in omega arith in
@@ -86,14 +88,16 @@ unfolding ending
 ending-exact reply [] e rest p = let z : _≡_ {A = ℕ} 0 1 = cc in absurd (omega arith)
 ending-exact reply (status ∷ s) e rest p = by (statusAllowed status) p
   where
-    then : (x : Got (List (List ℕ))) → texts (behind reply status) s ≡ x → goOn {B = Ending} x (λ es. give (record { status = status; error = es })) ≡ Got.got e rest → status ∷ s ≡ (e .status ∷ strings (e .error)) ++ rest
+    then : (x : Got (List (List ℕ))) → texts (behind reply status) s ≡ x → goOn {B = Ending} x (λ es. give (record { status = status; error = es })) ≡ Got.got e rest
+        → status ∷ s ≡ (e .status ∷ strings (e .error)) ++ rest
     then (Got.refused r) q f = let z : _≡_ {A = ℕ} 0 1 = cc in absurd (omega arith)
     then (Got.got es last) q f =
         let u : record { status = status; error = es } ≡ e = cc in
         let l : last ≡ rest = cc in
         ap (λ (m : List ℕ). status ∷ m) (texts-exact _ s es last q .1) ∙ ap (λ (d : Ending). (d .status ∷ strings (d .error)) ++ last) u ∙ ap (λ (m : List ℕ). (e .status ∷ strings (e .error)) ++ m) l
 
-    by : (t : Bool) → goOn (required t ValueNotAllowed s) (λ _ more. goOn {B = Ending} (texts (behind reply status) more) (λ es. give (record { status = status; error = es }))) ≡ Got.got e rest → status ∷ s ≡ (e .status ∷ strings (e .error)) ++ rest
+    by : (t : Bool) → goOn (required t ValueNotAllowed s) (λ _ more. goOn {B = Ending} (texts (behind reply status) more) (λ es. give (record { status = status; error = es })))
+        ≡ Got.got e rest → status ∷ s ≡ (e .status ∷ strings (e .error)) ++ rest
     by false f = let z : _≡_ {A = ℕ} 0 1 = cc in absurd (omega arith)
     by true f = then (texts (behind reply status) s) refl f
 
@@ -108,7 +112,8 @@ module _ (reply : Reply) (s : List ℕ) where
     unfolding fieldsOf
     fields-list-refused r p = rw e (rw p refl)
 
-    pub fields-end : (is : List Item) (last : List ℕ) → listField reply more ≡ Got.got is last → fieldsOf reply s ≡ goOn (ending reply last) (λ d. give (record { texts = ts; items = is; status = d .status; error = d .error }))
+    pub fields-end : (is : List Item) (last : List ℕ) → listField reply more ≡ Got.got is last
+        → fieldsOf reply s ≡ goOn (ending reply last) (λ d. give (record { texts = ts; items = is; status = d .status; error = d .error }))
     unfolding fieldsOf ending
     fields-end is [] p = rw e (rw p refl)
     fields-end is (status ∷ last) p = rw e (rw p (by (statusAllowed status)))
@@ -121,7 +126,9 @@ module _ (reply : Reply) (s : List ℕ) where
 
         by : (t : Bool)
             → goOn (required t ValueNotAllowed last) (λ _ m. goOn {B = Response} (texts (behind reply status) m) (λ es. give (record { texts = ts; items = is; status = status; error = es })))
-            ≡ goOn {B = Response} (goOn (required t ValueNotAllowed last) (λ _ m. goOn {B = Ending} (texts (behind reply status) m) (λ es. give (record { status = status; error = es })))) (λ d. give (record { texts = ts; items = is; status = d .status; error = d .error }))
+            ≡ goOn {B = Response} (goOn (required t ValueNotAllowed last)
+            (λ _ m. goOn {B = Ending} (texts (behind reply status) m) (λ es. give (record { status = status; error = es }))))
+            (λ d. give (record { texts = ts; items = is; status = d .status; error = d .error }))
         by false = refl
         by true = then (texts (behind reply status) last)
 
@@ -158,7 +165,16 @@ module _ (reply : Reply) (b : List ℕ) (at : ℕ) where
           let m : size ≡ length (flatten (itemTexts is)) = cc in
           let l : last ≡ at + (length b - at - length rest) = cc in
           let k = l ∙ behind-at b at (listBytes reply is) rest x in
-          record { is = is; rest = rest; got = p; counted = n; sized = m; ends = k; behind = ap (λ (j : ℕ). drop j b) k ∙ behind-is b at (listBytes reply is) rest x; whole = all-of b at (listBytes reply is) rest x }
+          record {
+            is = is;
+            rest = rest;
+            got = p;
+            counted = n;
+            sized = m;
+            ends = k;
+            behind = ap (λ (j : ℕ). drop j b) k ∙ behind-is b at (listBytes reply is) rest x;
+            whole = all-of b at (listBytes reply is) rest x;
+          }
 
   pub list-not : (r : Refusal) → itemsAt at (length b - at) (listField reply (drop at b)) ≡ items-at.Refused r → listField reply (drop at b) ≡ Got.refused r
   list-not r e = by (listField reply (drop at b)) e

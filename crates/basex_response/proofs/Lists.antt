@@ -1,7 +1,7 @@
 -- Items off the front: one step of a list, what it takes, and that its bound is no bound.
 use mathlib.Core.Path.{_≡_, refl, sym, ap, subst, _∙_}
 use mathlib.Core.Bool.{Bool, true, false}
-use mathlib.Core.List.{List, [], _∷_, _++_, flatten, append-assoc}
+use mathlib.Core.List.{List, [], _∷_, _++_, flatten, append-assoc, flatMap}
 use Prim.Native.Nat.{ℕ, zero, suc, _+_, _≤_, _<_}
 use native.Mathlib.Omega.{arith}
 use lib.Dec.{eqb}
@@ -104,7 +104,7 @@ module _ (full : Bool) where
 
   -- a list is what a writer writes of it
   items-exact : (n : ℕ) (s : List ℕ) (is : List Item) (rest : List ℕ) → items n full s ≡ Got.got is rest → s ≡ itemsBytes is ++ (0 ∷ rest)
-  unfolding items itemsBytes
+  unfolding items flatMap
   items-exact zero s is rest e = let z : _≡_ {A = ℕ} 0 1 = cc in absurd (omega arith)
   items-exact (suc n) s is rest e = by (next full s) refl (items-exact n) e
     where
@@ -122,7 +122,8 @@ module _ (full : Bool) where
           then (Got.got js last) q f =
               let l : last ≡ rest = cc in
               let u : i ∷ js ≡ is = cc in
-              item-exact s i more p ∙ ap (λ (m : List ℕ). itemBytes i ++ m) (ih more js last q) ∙ sym (append-assoc (itemBytes i) (itemsBytes js) (0 ∷ last)) ∙ ap (λ (m : List ℕ). itemsBytes (i ∷ js) ++ (0 ∷ m)) l ∙ ap (λ (ks : List Item). itemsBytes ks ++ (0 ∷ rest)) u
+              item-exact s i more p ∙ ap (λ (m : List ℕ). itemBytes i ++ m) (ih more js last q) ∙ sym (append-assoc (itemBytes i) (itemsBytes js) (0 ∷ last))
+              ∙ ap (λ (m : List ℕ). itemsBytes (i ∷ js) ++ (0 ∷ m)) l ∙ ap (λ (ks : List Item). itemsBytes ks ++ (0 ∷ rest)) u
 
   pub list-exact : (s : List ℕ) (is : List Item) (rest : List ℕ) → list full s ≡ Got.got is rest → s ≡ itemsBytes is ++ (0 ∷ rest)
   list-exact s is rest e = items-exact (length s) s is rest e
@@ -133,7 +134,7 @@ unfolding itemBytes
 item-size i = omega (arith, texts-shorter (i .texts))
 
 pub items-size : (is : List Item) → length (flatten (itemTexts is)) + length is ≤ length (itemsBytes is)
-unfolding itemsBytes itemTexts flatten
+unfolding flatMap flatten
 items-size [] = omega arith
 items-size (i ∷ is) =
     let h = items-size is in

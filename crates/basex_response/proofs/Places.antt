@@ -65,7 +65,8 @@ module _ (full : Bool) (b : List ℕ) (at : ℕ) where
           reads : (x : Got (List (List ℕ))) → texts n (drop (at + 1) b) ≡ x → next full (drop at b) ≡ told (getD b at 0) x
           reads x p = goes ∙ ap (told (getD b at 0)) (ap (λ (m : ℕ). texts m (drop (at + 1) b)) (sym e) ∙ p)
 
-          pub texts-refused : (r : Refusal) → twoAt (at + 1) (length b - (at + 1)) (texts (min n 2) (drop (at + 1) b)) ≡ two-at.Refused r → item-at.Refused r ≡ itemAt full at (length b - at) (next full (drop at b))
+          pub texts-refused : (r : Refusal) → twoAt (at + 1) (length b - (at + 1)) (texts (min n 2) (drop (at + 1) b)) ≡ two-at.Refused r
+              → item-at.Refused r ≡ itemAt full at (length b - at) (next full (drop at b))
           texts-refused r t = rw (reads _ (two-not b (at + 1) n few r t)) refl
 
           module _ (first second last : ℕ) (t : twoAt (at + 1) (length b - (at + 1)) (texts (min n 2) (drop (at + 1) b)) ≡ two-at.At first second last) where

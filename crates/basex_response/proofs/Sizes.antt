@@ -1,6 +1,6 @@
 -- How much room texts take, and where what stands behind them starts.
 use mathlib.Core.Path.{_≡_, refl, sym, ap, _∙_}
-use mathlib.Core.List.{List, [], _∷_, _++_, flatten, append-assoc}
+use mathlib.Core.List.{List, [], _∷_, _++_, flatten, append-assoc, flatMap}
 use Prim.Native.Nat.{ℕ, _+_, _-_, _≤_, min}
 use native.Mathlib.Omega.{arith}
 use lib.ListN.{length, drop, length-append, length-drop}
@@ -20,7 +20,7 @@ flatten-append (t ∷ ts) us = ap (λ (m : List ℕ). t ++ m) (flatten-append ts
 
 -- a text is shorter than its string
 pub texts-shorter : (ts : List (List ℕ)) → length (flatten ts) + length ts ≤ length (strings ts)
-unfolding flatten strings
+unfolding flatten flatMap
 texts-shorter [] = omega arith
 texts-shorter (t ∷ ts) =
     let i = texts-shorter ts in

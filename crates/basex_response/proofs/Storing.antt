@@ -1,7 +1,7 @@
 -- Storing a list of items that was judged: what is still ahead makes the whole.
 use mathlib.Core.Path.{_≡_, refl, sym, ap, subst, _∙_}
 use mathlib.Core.Bool.{Bool, true, false}
-use mathlib.Core.List.{List, [], _∷_, _++_, flatten}
+use mathlib.Core.List.{List, [], _∷_, _++_, flatten, flatMap}
 use Prim.Native.Nat.{ℕ, suc, _+_, _-_, _≤_, _<_}
 use native.Mathlib.Omega.{arith}
 use lib.ListN.{length, getD, drop, length-append, length-drop}
@@ -80,7 +80,8 @@ pub record Going (full : Bool) (b : List ℕ) (whole : TextsStored) (from left :
   pub ahead : Ahead (whole .out) out to (flatten (itemTexts is))
   pub ends : to + length (flatten (itemTexts is)) ≡ whole .to
 
-pub going-start : (full : Bool) (b : List ℕ) (at count left : ℕ) (out : List ℕ) (to : ℕ) → ListFits count to (length out) (list full (drop at b)) → left ≡ count → Going full b (listStored out to (list full (drop at b))) at left out to
+pub going-start : (full : Bool) (b : List ℕ) (at count left : ℕ) (out : List ℕ) (to : ℕ) → ListFits count to (length out) (list full (drop at b)) → left ≡ count
+    → Going full b (listStored out to (list full (drop at b))) at left out to
 going-start full b at count left out to h e = by (list full (drop at b)) refl h
   where
     by : (x : Got (List Item)) → list full (drop at b) ≡ x → ListFits count to (length out) x → Going full b (listStored out to x) at left out to
@@ -92,12 +93,14 @@ module _ (full : Bool) (b : List ℕ) (whole : TextsStored) (from left : ℕ) (o
   pub going-inside : from < length b
   going-inside = let x = ap length (list-exact full (drop from b) (g .is) (whole .rest) (g .got)) in omega (arith, length-drop from b, length-append (itemsBytes (g .is)) (0 ∷ whole .rest))
 
-  module _ (n : ℕ) (e : n ≡ itemStrings full (getD b from 0)) (r : Ends) (out' : List ℕ) (p : r ≡ ends (from + 1) (length b - (from + 1)) (textsStored n out to (drop (from + 1) b))) (q : out' ≡ textsStored n out to (drop (from + 1) b) .out) where
+  module _ (n : ℕ) (e : n ≡ itemStrings full (getD b from 0)) (r : Ends) (out' : List ℕ)
+      (p : r ≡ ends (from + 1) (length b - (from + 1)) (textsStored n out to (drop (from + 1) b))) (q : out' ≡ textsStored n out to (drop (from + 1) b) .out) where
     pub going-on : (k : ℕ) → left ≡ suc k → Going full b whole (r .next) k out' (r .to) × (from ≤ r .next)
-    unfolding itemTexts
+    unfolding flatMap
     going-on k h = by (g .is) (g .got) (g .count) (g .ahead) (g .ends)
       where
-        by : (is : List Item) → list full (drop from b) ≡ Got.got is (whole .rest) → left ≡ length is → Ahead (whole .out) out to (flatten (itemTexts is)) → to + length (flatten (itemTexts is)) ≡ whole .to → Going full b whole (r .next) k out' (r .to) × (from ≤ r .next)
+        by : (is : List Item) → list full (drop from b) ≡ Got.got is (whole .rest) → left ≡ length is → Ahead (whole .out) out to (flatten (itemTexts is))
+            → to + length (flatten (itemTexts is)) ≡ whole .to → Going full b whole (r .next) k out' (r .to) × (from ≤ r .next)
         by [] s c a t = absurd (omega arith)
         by (i ∷ is) s c a t =
             let m = list-more full (drop from b) i is (whole .rest) s in
@@ -105,7 +108,8 @@ module _ (full : Bool) (b : List ℕ) (whole : TextsStored) (from left : ℕ) (o
             let d : getD b from 0 ∷ drop (from + 1) b ≡ i .id ∷ f .tail = sym (here b from going-inside) ∙ f .starts in
             let k′ : getD b from 0 ≡ i .id = cc in
             let j : drop (from + 1) b ≡ f .tail = cc in
-            let x : texts n (drop (from + 1) b) ≡ Got.got (i .texts) (m .behind) = ap (λ (z : ℕ). texts z (drop (from + 1) b)) (e ∙ ap (itemStrings full) k′) ∙ ap (texts (itemStrings full (i .id))) j ∙ f .goes in
+            let x : texts n (drop (from + 1) b) ≡ Got.got (i .texts) (m .behind) = ap (λ (z : ℕ). texts z (drop (from + 1) b)) (e ∙ ap (itemStrings full) k′)
+            ∙ ap (texts (itemStrings full (i .id))) j ∙ f .goes in
             let v = flatten-append (i .texts) (itemTexts is) in
             let w : Ahead (whole .out) out to (flatten (i .texts) ++ flatten (itemTexts is)) = subst (Ahead (whole .out) out to) v a in
             let y = put-texts b (whole .out) (from + 1) to n (i .texts) (m .behind) out (flatten (itemTexts is)) (let h′ = going-inside in omega arith) x w r out' p q in
@@ -115,10 +119,11 @@ module _ (full : Bool) (b : List ℕ) (whole : TextsStored) (from left : ℕ) (o
             (record { is = is; got = ap (list full) (y .reads) ∙ m .then; count = omega arith; ahead = y .writes; ends = omega arith }, omega arith)
 
   pub going-done : (at : ℕ) → at ≤ from → left ≡ 0 → Gives (ends at (length b - at) whole) (whole .out) (record { next = from + 1; to = to }) out
-  unfolding itemTexts flatten itemsBytes
+  unfolding flatMap flatten
   going-done at k h = by (g .is) (g .got) (g .count) (g .ahead) (g .ends)
     where
-      by : (is : List Item) → list full (drop from b) ≡ Got.got is (whole .rest) → left ≡ length is → Ahead (whole .out) out to (flatten (itemTexts is)) → to + length (flatten (itemTexts is)) ≡ whole .to
+      by : (is : List Item) → list full (drop from b) ≡ Got.got is (whole .rest) → left ≡ length is → Ahead (whole .out) out to (flatten (itemTexts is))
+          → to + length (flatten (itemTexts is)) ≡ whole .to
           → Gives (ends at (length b - at) whole) (whole .out) (record { next = from + 1; to = to }) out
       by (i ∷ is) s c a t = absurd (omega arith)
       by [] s c a t =
@@ -139,7 +144,7 @@ module _ (reply : Reply) (s : List ℕ) where
 
 pub none-stored : (reply : Reply) (b : List ℕ) (at : ℕ) (out : List ℕ) (to : ℕ) → listed reply ≡ false
     → Gives (ends at (length b - at) (listStored out to (listField reply (drop at b)))) (listStored out to (listField reply (drop at b)) .out) (record { next = at; to = to }) out
-unfolding itemTexts flatten
+unfolding flatMap flatten
 none-stored reply b at out to e =
     let n : at ≡ at + (length b - at - length (drop at b)) = omega (arith, length-drop at b) in
     let m : to ≡ to + 0 = omega arith in

@@ -1,7 +1,7 @@
 -- The walk over a list of items in a slice: each starts where the one before it ends.
 use mathlib.Core.Path.{_≡_, refl, sym, ap, _∙_}
 use mathlib.Core.Bool.{Bool, true, false}
-use mathlib.Core.List.{List, _∷_, _++_, flatten}
+use mathlib.Core.List.{List, _∷_, _++_, flatten, flatMap}
 use Prim.Native.Nat.{ℕ, suc, _+_, _-_}
 use native.Mathlib.Omega.{arith}
 use lib.ListN.{length, drop, length-append, length-drop}
@@ -82,7 +82,7 @@ module _ (full : Bool) (b : List ℕ) (at : ℕ) where
   walk-refused r e = ap (itemsAt at (length b - at)) (list-refused full (drop at b) r (not-here r e))
 
   pub walk-end : (last : ℕ) → itemAt full at (length b - at) (next full (drop at b)) ≡ item-at.End last → itemsAt at (length b - at) (list full (drop at b)) ≡ items-at.At 0 0 last
-  unfolding itemTexts flatten
+  unfolding flatMap flatten
   walk-end last e = by (next full (drop at b)) refl e
     where
       by : (x : Got Next) → next full (drop at b) ≡ x → itemAt full at (length b - at) x ≡ item-at.End last → itemsAt at (length b - at) (list full (drop at b)) ≡ items-at.At 0 0 last
@@ -108,10 +108,11 @@ after-one count listed m (items-at.At n k last) =
 
 pub walk-item : (full : Bool) (b : List ℕ) (at uri text last : ℕ) → Here full b at uri text last
     → itemsAt at (length b - at) (list full (drop at b)) ≡ after 1 (uri + text) (itemsAt last (length b - last) (list full (drop last b)))
-unfolding itemTexts
+unfolding flatMap
 walk-item full b at uri text last h = ap (itemsAt at (length b - at)) (list-item full (drop at b) (h .item) (h .rest) (h .got)) ∙ by (list full (drop last b)) refl
   where
-    by : (x : Got (List Item)) → list full (drop last b) ≡ x → itemsAt at (length b - at) (goOn (list full (h .rest)) (λ is. give (h .item ∷ is))) ≡ after 1 (uri + text) (itemsAt last (length b - last) x)
+    by : (x : Got (List Item)) → list full (drop last b) ≡ x → itemsAt at (length b - at) (goOn (list full (h .rest)) (λ is. give (h .item ∷ is))) ≡ after 1 (uri + text)
+        (itemsAt last (length b - last) x)
     by (Got.refused r) p = rw (ap (list full) (sym (h .behind)) ∙ p) refl
     by (Got.got is rest) p =
         let e = ap (list full) (sym (h .behind)) ∙ p in
@@ -120,6 +121,7 @@ walk-item full b at uri text last h = ap (itemsAt at (length b - at)) (list-item
         let t = h .ends in
         let u = h .sizes in
         let n : suc (length is) ≡ 1 + length is = omega arith in
-        let m : length (flatten (h .item .texts ++ itemTexts is)) ≡ uri + text + length (flatten (itemTexts is)) = omega (arith, ap length (flatten-append (h .item .texts) (itemTexts is)), length-append (flatten (h .item .texts)) (flatten (itemTexts is))) in
+        let m : length (flatten (h .item .texts ++ itemTexts is)) ≡ uri + text + length (flatten (itemTexts is)) = omega
+        (arith, ap length (flatten-append (h .item .texts) (itemTexts is)), length-append (flatten (h .item .texts)) (flatten (itemTexts is))) in
         let k : at + (length b - at - length rest) ≡ last + (length b - last - length rest) = omega arith in
         rw e (cc)

@@ -1,7 +1,7 @@
 -- A response that was read: its parts, how long its texts are together, and storing them one behind the other.
 use mathlib.Core.Path.{_≡_, refl, sym, ap, subst, _∙_}
 use mathlib.Core.Bool.{Bool, true, false}
-use mathlib.Core.List.{List, [], _∷_, _++_, flatten, append-nil}
+use mathlib.Core.List.{List, [], _∷_, _++_, flatten, append-nil, flatMap}
 use Prim.Native.Nat.{ℕ, _+_, _-_, _≤_, _<_}
 use native.Mathlib.Omega.{arith}
 use lib.ListN.{length, drop, length-append}
@@ -24,8 +24,8 @@ use Rattle.basex.proofs.Texts.{texts-exact}
 use Rattle.basex_response.specs.declared.Replied.{Replied}
 use Rattle.basex_response.specs.declared.Replied.the-variants as replied
 use Rattle.basex_response.specs.Items.{list, itemTexts}
-use Rattle.basex_response.specs.Reading.{listField, fieldsOf, allTexts, reading, readingAs, textBytes, answered}
-use Rattle.basex_response.specs.inner.Judging.{Ending, ending, judgement, ListFits, listStored, Fits}
+use Rattle.basex_response.specs.Reading.{listField, fieldsOf, allTexts, reading, readingAs, textBytes, judgement, answered}
+use Rattle.basex_response.specs.inner.Judging.{Ending, ending, ListFits, listStored, Fits}
 use Rattle.basex_response.proofs.Sizes.{flatten-append, texts-shorter, two-lengths, one-length, all-of, behind-at, behind-is}
 use Rattle.basex_response.proofs.Lists.{list-room}
 use Rattle.basex_response.proofs.Fields.{ahead-few, behind-few, list-field-exact, fields-end, fields-refused, fields-list-refused}
@@ -47,19 +47,22 @@ abbrev withEnd : List (List ℕ) → List Item → Got Ending → Got Response
 withEnd ts is x = goOn x (λ d. give (record { texts = ts; items = is; status = d .status; error = d .error }))
 
 module _ (reply : Reply) (b : List ℕ) (p : Response) (rest : List ℕ) where
-  end-parts : (ts : List (List ℕ)) (more : List ℕ) → texts (ahead reply) b ≡ Got.got ts more → (is : List Item) (last : List ℕ) → listField reply more ≡ Got.got is last → withEnd ts is (ending reply last) ≡ Got.got p rest → Parts reply b p rest
+  end-parts : (ts : List (List ℕ)) (more : List ℕ) → texts (ahead reply) b ≡ Got.got ts more → (is : List Item) (last : List ℕ) → listField reply more ≡ Got.got is last
+      → withEnd ts is (ending reply last) ≡ Got.got p rest → Parts reply b p rest
   unfolding ending
   end-parts ts more f is [] l e = let z : _≡_ {A = ℕ} 0 1 = cc in absurd (omega arith)
   end-parts ts more f is (status ∷ tail) l e = by (statusAllowed status) refl e
     where
-      then : status ≤ 1 → (x : Got (List (List ℕ))) → texts (behind reply status) tail ≡ x → withEnd ts is (goOn x (λ es. give (record { status = status; error = es }))) ≡ Got.got p rest → Parts reply b p rest
+      then : status ≤ 1 → (x : Got (List (List ℕ))) → texts (behind reply status) tail ≡ x
+          → withEnd ts is (goOn x (λ es. give (record { status = status; error = es }))) ≡ Got.got p rest → Parts reply b p rest
       then h (Got.refused r) q g = let z : _≡_ {A = ℕ} 0 1 = cc in absurd (omega arith)
       then h (Got.got es m) q g =
           let u : record { texts = ts; items = is; status = status; error = es } ≡ p = cc in
           let k : m ≡ rest = cc in
           subst (λ (y : Response). Parts reply b y rest) u (record { more = more; last = status ∷ tail; tail = tail; first = f; list = l; status = refl; allowed = h; error = q ∙ ap (Got.got es) k })
 
-      by : (t : Bool) → statusAllowed status ≡ t → withEnd ts is (goOn (required t ValueNotAllowed tail) (λ _ m. goOn (texts (behind reply status) m) (λ es. give (record { status = status; error = es })))) ≡ Got.got p rest → Parts reply b p rest
+      by : (t : Bool) → statusAllowed status ≡ t → withEnd ts is
+          (goOn (required t ValueNotAllowed tail) (λ _ m. goOn (texts (behind reply status) m) (λ es. give (record { status = status; error = es })))) ≡ Got.got p rest → Parts reply b p rest
       by false q g = let z : _≡_ {A = ℕ} 0 1 = cc in absurd (omega arith)
       by true q g = then (leb-true _ _ q) (texts (behind reply status) tail) refl g
 
@@ -75,7 +78,7 @@ module _ (reply : Reply) (b : List ℕ) (p : Response) (rest : List ℕ) where
           then (Got.got is last) l = end-parts ts more f is last l (sym (fields-end reply b ts more f is last l) ∙ e)
 
 list-field-room : (reply : Reply) (s : List ℕ) (is : List Item) (rest : List ℕ) → listField reply s ≡ Got.got is rest → length (flatten (itemTexts is)) + length rest ≤ length s
-unfolding itemTexts flatten
+unfolding flatMap flatten
 list-field-room reply s is rest e = by (listed reply) e
   where
     by : (t : Bool) → if t (list (isFull reply) s) (Got.got [] s) ≡ Got.got is rest → length (flatten (itemTexts is)) + length rest ≤ length s
@@ -93,7 +96,13 @@ module _ (p : Response) where
   all-flat = flatten-append (p .texts) (itemTexts (p .items) ++ p .error) ∙ ap (λ (m : List ℕ). flatten (p .texts) ++ m) (flatten-append (itemTexts (p .items)) (p .error))
 
   all-length : length (flatten (allTexts p)) ≡ length (flatten (p .texts)) + length (flatten (itemTexts (p .items))) + length (flatten (p .error))
-  all-length = omega (arith, ap length all-flat, length-append (flatten (p .texts)) (flatten (itemTexts (p .items)) ++ flatten (p .error)), length-append (flatten (itemTexts (p .items))) (flatten (p .error)))
+  all-length = omega (
+    arith,
+    ap length all-flat,
+    length-append (flatten (p .texts)) (flatten (itemTexts (p .items)) ++ flatten (p .error)),
+    length-append
+        (flatten (itemTexts (p .items))) (flatten (p .error)),
+  )
 
 module _ (reply : Reply) (b : List ℕ) (p : Response) (rest : List ℕ) (d : Parts reply b p rest) where
   pub all-told : lengthAt (p .texts) 0 + lengthAt (p .texts) 1 + length (flatten (itemTexts (p .items))) + lengthAt (p .error) 0 ≡ length (flatten (allTexts p))
@@ -101,7 +110,15 @@ module _ (reply : Reply) (b : List ℕ) (p : Response) (rest : List ℕ) (d : Pa
       let x = texts-exact _ b (p .texts) (d .more) (d .first) .0 in
       let y = texts-exact _ (d .tail) (p .error) rest (d .error) .0 in
       let a = d .allowed in
-      omega (arith, ahead-few reply, behind-few reply (p .status), two-lengths (p .texts) (let f = ahead-few reply in omega arith), one-length (p .error) (let f = behind-few reply (p .status) in omega arith), all-length p)
+      omega (
+        arith,
+        ahead-few reply,
+        behind-few reply (p .status),
+        two-lengths (p .texts) (let f = ahead-few reply in omega arith),
+        one-length (p .error)
+            (let f = behind-few reply (p .status) in omega arith),
+        all-length p,
+      )
 
   -- they are no longer than the bytes
   pub all-short : length (flatten (allTexts p)) ≤ length b
@@ -141,7 +158,8 @@ module _ (reply : Reply) (b : List ℕ) (items status : ℕ) (out : List ℕ) (j
   pub stage-one : (n : ℕ) → n ≡ ahead reply → (r : Ends) (out' : List ℕ) → r ≡ ends 0 (length b - 0) (textsStored n out 0 b) → out' ≡ textsStored n out 0 b .out
       → Put b (made out (j .response)) 0 0 (length (flatten (j .response .texts))) (j .parts .more) r out' (others (j .response))
   stage-one n e r out' p q =
-      let w : Ahead (made out (j .response)) out 0 (flatten (j .response .texts) ++ others (j .response)) = subst (Ahead (made out (j .response)) out 0) (all-flat (j .response)) (start out 0 (flatten (allTexts (j .response))) (let h = j .fits in omega arith)) in
+      let w : Ahead (made out (j .response)) out 0 (flatten (j .response .texts) ++ others (j .response)) = subst (Ahead (made out (j .response)) out 0)
+      (all-flat (j .response)) (start out 0 (flatten (allTexts (j .response))) (let h = j .fits in omega arith)) in
       put-texts b (made out (j .response)) 0 0 n (j .response .texts) (j .parts .more) out (others (j .response)) (omega arith) (ap (λ (m : ℕ). texts m b) e ∙ j .parts .first) w r out' p q
 
   module _ (at to size : ℕ) (r : Ends) (one : List ℕ) (u : Put b (made out (j .response)) at to size (j .parts .more) r one (others (j .response))) where
@@ -149,10 +167,12 @@ module _ (reply : Reply) (b : List ℕ) (items status : ℕ) (out : List ℕ) (j
     list-got = ap (listField reply) (u .reads) ∙ j .parts .list
 
     pub list-fits : ListFits items (r .to) (length one) (listField reply (drop (r .next) b))
-    list-fits = subst (ListFits items (r .to) (length one)) (sym list-got) (j .count, let h = u .writes .fits in omega (arith, length-append (flatten (itemTexts (j .response .items))) (flatten (j .response .error))))
+    list-fits = subst (ListFits items (r .to) (length one)) (sym list-got)
+        (j .count, let h = u .writes .fits in omega (arith, length-append (flatten (itemTexts (j .response .items))) (flatten (j .response .error))))
 
     -- the texts of the items are stored
-    pub stage-two : (q : Ends) (two : List ℕ) → q ≡ ends (r .next) (length b - r .next) (listStored one (r .to) (listField reply (drop (r .next) b))) → two ≡ listStored one (r .to) (listField reply (drop (r .next) b)) .out
+    pub stage-two : (q : Ends) (two : List ℕ) → q ≡ ends (r .next) (length b - r .next) (listStored one (r .to) (listField reply (drop (r .next) b)))
+        → two ≡ listStored one (r .to) (listField reply (drop (r .next) b)) .out
         → Put b (made out (j .response)) (r .next) (r .to) (length (flatten (itemTexts (j .response .items)))) (j .parts .last) q two (flatten (j .response .error))
     stage-two q two e f =
         let is = j .response .items in
@@ -160,7 +180,8 @@ module _ (reply : Reply) (b : List ℕ) (items status : ℕ) (out : List ℕ) (j
         let z = all-of b (r .next) (listBytes reply is) (j .parts .last) x in
         let y = u .sum in
         let st = ap (listStored one (r .to)) list-got in
-        let qn : q .next ≡ r .next + length (listBytes reply is) = ap (λ (m : Ends). m .next) (e ∙ ap (ends (r .next) (length b - r .next)) st) ∙ behind-at b (r .next) (listBytes reply is) (j .parts .last) x in
+        let qn : q .next ≡ r .next + length (listBytes reply is) = ap (λ (m : Ends). m .next) (e ∙ ap (ends (r .next) (length b - r .next)) st)
+        ∙ behind-at b (r .next) (listBytes reply is) (j .parts .last) x in
         let qt : q .to ≡ r .to + length (flatten (itemTexts is)) = ap (λ (m : Ends). m .to) (e ∙ ap (ends (r .next) (length b - r .next)) st) in
         let o : two ≡ splice one (r .to) (flatten (itemTexts is)) = f ∙ ap (λ (m : TextsStored). m .out) st in
         let fit : r .to + length (flatten (itemTexts is)) ≤ length one = let h = u .writes .fits in omega (arith, length-append (flatten (itemTexts is)) (flatten (j .response .error))) in
@@ -177,11 +198,14 @@ module _ (reply : Reply) (b : List ℕ) (items status : ℕ) (out : List ℕ) (j
     pub status-there : r .next < length b
     status-there = let s = u .sum in let l = ap length (j .parts .status) in omega arith
 
-    pub stage-three : (m : ℕ) → m ≡ behind reply status → (q : Ends) (three : List ℕ) → q ≡ ends (r .next + 1) (length b - (r .next + 1)) (textsStored m two (r .to) (drop (r .next + 1) b)) → three ≡ textsStored m two (r .to) (drop (r .next + 1) b) .out → three ≡ outputRead textBytes out 0 (fieldsOf reply b)
+    pub stage-three : (m : ℕ) → m ≡ behind reply status → (q : Ends) (three : List ℕ)
+        → q ≡ ends (r .next + 1) (length b - (r .next + 1)) (textsStored m two (r .to) (drop (r .next + 1) b)) → three ≡ textsStored m two (r .to) (drop (r .next + 1) b) .out
+        → three ≡ outputRead textBytes out 0 (fieldsOf reply b)
     stage-three m e q three f g =
         let h = status-there in
         let k : drop (r .next + 1) b ≡ j .parts .tail = sym (drop-drop 1 (r .next) b) ∙ ap (drop 1) (u .reads ∙ j .parts .status) in
-        let x : texts m (drop (r .next + 1) b) ≡ Got.got (j .response .error) (j .rest) = ap (texts m) k ∙ ap (λ (n : ℕ). texts n (j .parts .tail)) (e ∙ ap (behind reply) (j .state)) ∙ j .parts .error in
+        let x : texts m (drop (r .next + 1) b) ≡ Got.got (j .response .error) (j .rest) = ap (texts m) k
+        ∙ ap (λ (n : ℕ). texts n (j .parts .tail)) (e ∙ ap (behind reply) (j .state)) ∙ j .parts .error in
         let w = subst (Ahead (made out (j .response)) two (r .to)) (sym (append-nil (flatten (j .response .error)))) (u .writes) in
         let v = put-texts b (made out (j .response)) (r .next + 1) (r .to) m (j .response .error) (j .rest) two [] (omega arith) x w q three f g in
         ahead-none (v .writes) refl ∙ sym (putAt-fits out 0 (flatten (allTexts (j .response))) (let t = j .fits in omega arith)) ∙ ap (outputRead textBytes out 0) (sym (j .got))
@@ -197,7 +221,8 @@ pub record Told (reply : Reply) (b : List ℕ) (sum items status : ℕ) : Type 0
   pub short : sum ≤ length b
 
 module _ (reply : Reply) (b : List ℕ) where
-  pub told : (first second items size status error last : ℕ) → judgement (length b) (fieldsOf reply b) ≡ replied.Read first second items size status error last → Told reply b (first + second + size + error) items status
+  pub told : (first second items size status error last : ℕ) → judgement (length b) (fieldsOf reply b) ≡ replied.Read first second items size status error last
+      → Told reply b (first + second + size + error) items status
   told first second items size status error last e = by (fieldsOf reply b) refl e
     where
       by : (x : Got Response) → fieldsOf reply b ≡ x → judgement (length b) x ≡ replied.Read first second items size status error last → Told reply b (first + second + size + error) items status

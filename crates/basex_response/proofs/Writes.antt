@@ -1,18 +1,16 @@
--- The writer's steps: the room, and a text that is taken or not.
+-- The writer's items, and what a call that writes answers and leaves.
 use mathlib.Core.Path.{_≡_, refl, sym, ap, _∙_}
 use mathlib.Core.Bool.{Bool, true, false}
-use mathlib.Core.List.{List, [], _∷_, _++_, flatten, append-nil}
-use Prim.Native.Nat.{ℕ, _+_, _-_, _≤_}
+use mathlib.Core.List.{List, [], _∷_, _++_, flatten, append-nil, flatMap}
+use Prim.Native.Nat.{ℕ, _+_}
 use native.Mathlib.Omega.{arith}
-use lib.Dec.{leb, eqb}
+use lib.Dec.{eqb}
 use lib.ListN.{length, length-append}
-use borrow.Author.Tests.{le-leb, lt-leb, leb-true, leb-false}
 use Rattle.wire.specs.Bytes.{if}
 use Rattle.wire.specs.Call.{inRoom, outputAfter, putAt, Gives, Writes}
 use Rattle.wire.specs.declared.Refusal.{Refusal}
 use Rattle.wire.specs.declared.Refusal.the-variants.{ValueNotAllowed}
-use Rattle.wire.proofs.Call.{put-after, refused-short, refused-leaves}
-use Rattle.wire.proofs.Splices.{Ahead, splice-none, putAt-fits}
+use Rattle.wire.proofs.Call.{put-after, refused-leaves}
 use Rattle.wire.specs.declared.Counted.{Counted}
 use Rattle.wire.specs.declared.Counted.the-variants.{Refused}
 use Rattle.basex_string.specs.Strings.{string}
@@ -20,41 +18,13 @@ use Rattle.basex.specs.declared.Reply.{Reply}
 use Rattle.basex.specs.declared.Found.the-variants.{Known}
 use Rattle.basex.specs.Kinds.{findOf, listed, isFull, idAllowed, hasUri, itemStrings}
 use Rattle.basex.specs.Response.{itemBytes}
-use Rattle.basex.specs.Texts.{strings, unused}
+use Rattle.basex.specs.Texts.{stringIf, strings, unused}
 use Rattle.basex_response.specs.Writing.{itemOf, fullOf, itemWritten}
-use Rattle.basex_response.specs.inner.Spelling.{stringIf, placeIf, itemParts}
-
-module _ (room at n : ℕ) where
-  pub room-behind : at ≤ room → leb n (room - at) ≡ leb (at + n) room
-  room-behind h = by (leb n (room - at)) refl
-    where
-      by : (t : Bool) → leb n (room - at) ≡ t → t ≡ leb (at + n) room
-      by true e = let l = leb-true n (room - at) e in sym (le-leb (at + n) room (omega arith))
-      by false e = let l = leb-false n (room - at) e in sym (lt-leb (at + n) room (omega arith))
-
-nothing-put : (out : List ℕ) (at : ℕ) → at + 0 ≤ length out → out ≡ putAt out at []
-nothing-put out at h = sym (putAt-fits out at [] h ∙ splice-none out at)
-
--- nothing is put of a text that is not taken, and no 00 where there is no list
-pub none-put : (x : Bool → List ℕ) → x false ≡ [] → (out : List ℕ) (at : ℕ) (taken : Bool) → taken ≡ false → at + length (x taken) ≤ length out
-    → Gives (at + length (x taken)) (putAt out at (x taken)) at out
-none-put x e out at taken f h =
-    let k : x taken ≡ [] = ap x f ∙ e in
-    let l = ap length k in
-    record { answers = omega arith; leaves = nothing-put out at (omega arith) ∙ ap (putAt out at) (sym k) }
-
--- a text that is taken is written
-module _ (out : List ℕ) (at : ℕ) (text : List ℕ) (h : at + length (string text) ≤ length out) where
-  pub never-refused : (r : Refusal) → inRoom (length out) at (length (string text)) ≡ Refused r → ⊥
-  never-refused r e = let f = refused-short (length out) at (length (string text)) r e .1 in omega arith
-
--- what is put first fits
-pub first-fits : {t d : List ℕ} {at : ℕ} (x rest : List ℕ) → Ahead t d at (x ++ rest) → at + length x ≤ length d
-first-fits x rest a = let f = a .fits in omega (arith, length-append x rest)
+use Rattle.basex_response.specs.inner.Spelling.{placeIf, itemParts}
 
 -- an item
 pub item-parts : (full : Bool) (id : ℕ) (uri text : List ℕ) → itemParts (hasUri full id) id uri text ≡ itemBytes (itemOf full id uri text)
-unfolding itemBytes strings
+unfolding itemBytes flatMap
 item-parts full id uri text = by (hasUri full id)
   where
     by : (u : Bool) → itemParts u id uri text ≡ id ∷ strings (if u (uri ∷ text ∷ []) (text ∷ []))

@@ -1,15 +1,10 @@
 -- Document 01, "An item is a type id (7-15 or 32-83, else 8), in FULL a URI string after 12, 14 and 82, and a string": reading them off the front.
-use mathlib.Core.Bool.{Bool}
-use mathlib.Core.List.{List, [], _∷_, _++_}
+use mathlib.Core.{Bool.Bool, List.List, List.[], List._∷_, List._++_, List.flatMap}
 use Prim.Native.Nat.{ℕ, zero, suc, _+_, _-_}
-use lib.Dec.{eqb}
-use lib.ListN.{length}
-use Rattle.wire.specs.Bytes.{if}
-use Rattle.wire.specs.Fields.{Got, Field, goOn, give}
+use lib.{Dec.eqb, ListN.length}
+use Rattle.wire.specs.{Bytes.if, Fields.Got, Fields.Field, Fields.goOn, Fields.give}
 use Rattle.wire.specs.declared.Refusal.the-variants.{MoreBytes, ValueNotAllowed}
-use Rattle.basex.specs.Kinds.{idAllowed, hasUri, itemStrings}
-use Rattle.basex.specs.Response.{Item}
-use Rattle.basex.specs.Texts.{texts, lengthAt}
+use Rattle.basex.specs.{Kinds.idAllowed, Kinds.hasUri, Kinds.itemStrings, Response.Item, Texts.texts, Texts.lengthAt}
 use Rattle.basex_response.specs.declared.ItemAt.{ItemAt}
 
 -- an item, or the 00 behind the last
@@ -37,10 +32,8 @@ items (suc n) full s = onNext (next full s) (λ i rest. goOn (items n full rest)
 abbrev pub list : Bool → Field (List Item)
 list full s = items (length s) full s
 
--- the texts of the items in order
-unfoldable pub itemTexts : List Item → List (List ℕ)
-itemTexts [] = []
-itemTexts (i ∷ is) = i .texts ++ itemTexts is
+abbrev pub itemTexts : List Item → List (List ℕ)
+itemTexts = flatMap (λ (i : Item). i .texts)
 
 -- how many bytes an item's URI has, 0 where it has none, and its text
 abbrev pub uriLength : Bool → Item → ℕ

@@ -1,18 +1,12 @@
 -- Document 01, "Responses are read knowing the request": what reading one answers.
 use mathlib.Core.List.{List, [], _∷_, _++_, flatten}
 use Prim.Native.Nat.{ℕ, _-_}
-use lib.Dec.{ltb}
-use lib.ListN.{length}
-use Rattle.wire.specs.Bytes.{if}
-use Rattle.wire.specs.Fields.{Got, Field, _>>=_, _>>_, give, required}
+use lib.{Dec.ltb, ListN.length}
+use Rattle.wire.specs.{Bytes.if, Fields.Got, Fields.Field, Fields._>>=_, Fields._>>_, Fields.give, Fields.required}
 use Rattle.wire.specs.declared.Refusal.the-variants.{MoreBytes, UnknownInstruction, ValueNotAllowed, NoRoom}
-use Rattle.basex.specs.declared.Found.{Found}
-use Rattle.basex.specs.declared.Reply.{Reply}
-use Rattle.basex.specs.Kinds.{findOf, ahead, behind, listed, isFull, statusAllowed}
-use Rattle.basex.specs.Response.{Item, Response}
-use Rattle.basex.specs.Texts.{texts, lengthAt}
-use Rattle.basex_response.specs.declared.Replied.{Replied}
-use Rattle.basex_response.specs.Items.{list, itemTexts}
+use Rattle.basex.specs.{declared.Found.Found, declared.Reply.Reply, Kinds.findOf, Kinds.ahead, Kinds.behind, Kinds.listed, Kinds.isFull, Kinds.statusAllowed}
+use Rattle.basex.specs.{Response.Item, Response.Response, Texts.texts, Texts.lengthAt}
+use Rattle.basex_response.specs.{declared.Replied.Replied, Items.list, Items.itemTexts}
 
 abbrev pub byteField : Field ℕ
 byteField [] = Got.refused MoreBytes
@@ -49,11 +43,14 @@ allTexts r = r .texts ++ (itemTexts (r .items) ++ r .error)
 abbrev pub textBytes : Response → List ℕ
 textBytes r = flatten (allTexts r)
 
--- of n bytes, and with an output of so many: how long each text is (the first, the second, those of the items, the error), how many items, the status,
--- and the bytes read; "with 10 last"
+-- of n bytes: how long each text is (the first, the second, those of the items, the error), how many items, the status, and the bytes read
+abbrev pub judgement : ℕ → Got Response → Replied
+judgement n (Got.refused r) = Replied.Refused r
+judgement n (Got.got p rest) =
+    Replied.Read (lengthAt (p .texts) 0) (lengthAt (p .texts) 1) (length (p .items)) (length (flatten (itemTexts (p .items)))) (p .status)
+    (lengthAt (p .error) 0) (n - length rest)
+
+-- the same with an output of so many; "with 10 last"
 abbrev pub answered : ℕ → ℕ → Got Response → Replied
 answered n room (Got.refused r) = Replied.Refused r
-answered n room (Got.got p rest) =
-    if (ltb room (length (textBytes p))) (Replied.Refused NoRoom)
-    (Replied.Read (lengthAt (p .texts) 0) (lengthAt (p .texts) 1) (length (p .items)) (length (flatten (itemTexts (p .items)))) (p .status)
-    (lengthAt (p .error) 0) (n - length rest))
+answered n room (Got.got p rest) = if (ltb room (length (textBytes p))) (Replied.Refused NoRoom) (judgement n (Got.got p rest))

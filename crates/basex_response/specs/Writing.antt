@@ -1,18 +1,13 @@
 -- Document 01, "When writing or cutting: 2, 8, 11, 14, 10": what writing a response answers, item by item and then
 -- its end, and the bytes.
-use mathlib.Core.Bool.{Bool, true, false}
-use mathlib.Core.List.{List, [], _∷_}
+use mathlib.Core.{Bool.Bool, Bool.true, Bool.false, List.List, List.[], List._∷_}
 use Prim.Native.Nat.{ℕ}
 use lib.ListN.{length, take}
-use Rattle.wire.specs.Bytes.{if}
-use Rattle.wire.specs.Call.{inRoom}
-use Rattle.wire.specs.declared.Refusal.the-variants.{UnknownInstruction, ValueNotAllowed}
+use Rattle.wire.specs.{Bytes.if, Call.inRoom, declared.Refusal.the-variants.UnknownInstruction, declared.Refusal.the-variants.ValueNotAllowed}
 use Rattle.wire.specs.declared.Counted.{Counted}
-use Rattle.basex.specs.declared.Found.{Found}
-use Rattle.basex.specs.declared.Reply.{Reply}
+use Rattle.basex.specs.{declared.Found.Found, declared.Reply.Reply}
 use Rattle.basex.specs.Kinds.{findOf, ahead, behind, listed, isFull, idAllowed, hasUri, statusAllowed}
-use Rattle.basex.specs.Response.{Item, Response, itemBytes, encode}
-use Rattle.basex.specs.Texts.{unused}
+use Rattle.basex.specs.{Response.Item, Response.Response, Response.itemBytes, Response.encode, Texts.unused}
 
 -- the item with that id, URI and text: the URI only where it has one
 abbrev pub itemOf : Bool → ℕ → List ℕ → List ℕ → Item

@@ -9,26 +9,22 @@ use wire::Place;
 pub fn error_at(reply: Reply, first: usize, second: usize, listed: usize, error: usize) -> Place
     ensures { λ r. ⌜ r ≡ errorAt reply first second listed error ⌝ }
 {
-    match reply {
-        Reply::Command => Place {
+    if basex::error_behind(reply) {
+        let start = if basex::is_listed(reply) {
+            listed
+        } else {
+            first
+        };
+        return Place { start, len: error };
+    }
+    if 1 < basex::strings_ahead(reply) {
+        return Place {
             start: first,
             len: second,
-        },
-        Reply::Create => Place {
-            start: 0,
-            len: first,
-        },
-        Reply::Query => Place {
-            start: first,
-            len: error,
-        },
-        Reply::Results => Place {
-            start: listed,
-            len: error,
-        },
-        Reply::Full => Place {
-            start: listed,
-            len: error,
-        },
+        };
+    }
+    Place {
+        start: 0,
+        len: first,
     }
 }

@@ -2,63 +2,23 @@
 // refusal, and behind the bytes written, the output stays as it was.
 ghost use mathlib.Core.Path.{_≡_};
 ghost use Prim.Native.Nat.{_+_, _≤_};
-ghost use lib.Dec.{leb};
 ghost use lib.ListN.{length};
 ghost use Rattle.wire.specs.Call.{inRoom, putAt, Gives, Writes};
 ghost use Rattle.basex.specs.Kinds.{findOf};
 ghost use Rattle.basex.specs.Response.{itemBytes};
+ghost use Rattle.basex.specs.Texts.{stringIf};
 ghost use Rattle.basex_response.specs.Writing.{itemOf, itemWritten, fullOf, endWritten, endBytes};
-ghost use Rattle.basex_response.specs.inner.Spelling.{stringIf, placeIf, zeroIf, itemParts, aheadParts, lastParts, endParts, endAllowed};
+ghost use Rattle.basex_response.specs.inner.Spelling.{placeIf, zeroIf, itemParts, aheadParts, lastParts, endParts, endAllowed};
 use basex::Found;
 use basex::Reply;
 use wire::Counted;
 use wire::Refusal;
-
-// How many bytes the text takes as a string.
-fn size_if(present: bool, text: &[u8]) -> usize
-    ensures { λ r. ⌜ r ≡ length (stringIf present (now (text .entry))) ⌝ }
-{
-    if present {
-        basex_string::string_len(text)
-    } else {
-        0
-    }
-}
 
 // Whether the text has a place, or is empty.
 fn has_place(present: bool, text: &[u8]) -> bool
     ensures { λ r. ⌜ r ≡ placeIf present (now (text .entry)) ⌝ }
 {
     if present { true } else { text.len() == 0 }
-}
-
-// Whether n bytes from `at` on fit.
-fn has_room(room: usize, at: usize, n: usize) -> bool
-    ensures { λ r. ⌜ r ≡ leb (at + n) room ⌝ }
-{
-    if room < at { false } else { n <= room - at }
-}
-
-// Four parts from `at` on: how many bytes, or 10. Nothing is summed before it is known to fit.
-fn parts_in_room(room: usize, at: usize, a: usize, b: usize, c: usize, d: usize) -> Counted
-    ensures { λ r. ⌜ r ≡ inRoom room at (a + b + c + d) ⌝ }
-{
-    if !has_room(room, at, a) {
-        return Counted::Refused(Refusal::NoRoom);
-    }
-    let one = at + a;
-    if !has_room(room, one, b) {
-        return Counted::Refused(Refusal::NoRoom);
-    }
-    let two = one + b;
-    if !has_room(room, two, c) {
-        return Counted::Refused(Refusal::NoRoom);
-    }
-    let three = two + c;
-    if !has_room(room, three, d) {
-        return Counted::Refused(Refusal::NoRoom);
-    }
-    Counted::Count(a + b + c + d)
 }
 
 // The text as a string where it is present; where the next field starts.
@@ -95,9 +55,9 @@ fn put_item(out: &mut [u8], at: usize, id: u8, uris: bool, uri: &[u8], text: &[u
     ensures { λ r. ⌜ Gives (inRoom (length (now (out .entry))) at (length (itemParts uris id (now (uri .entry)) (now (text .entry)))))
         (putAt (now (out .entry)) at (itemParts uris id (now (uri .entry)) (now (text .entry)))) r (now (out .exit)) ⌝ }
 {
-    let first = size_if(uris, uri);
-    let second = size_if(true, text);
-    let room = parts_in_room(out.len(), at, 1, first, second, 0);
+    let first = basex::size_if(uris, uri);
+    let second = basex::size_if(true, text);
+    let room = wire::parts_in_room(out.len(), at, 1, first, second, 0);
     match room {
         Counted::Refused(r) => Counted::Refused(r),
         Counted::Count(n) => {
@@ -172,12 +132,12 @@ fn end_room(
     ensures { λ r. ⌜ r ≡ inRoom room at (length (endParts reply (now (first .entry)) (now (second .entry)) status (now (error .entry)))) ⌝ }
 {
     let ahead = basex::strings_ahead(reply);
-    let a = size_if(0 < ahead, first);
-    let b = size_if(1 < ahead, second);
+    let a = basex::size_if(0 < ahead, first);
+    let b = basex::size_if(1 < ahead, second);
     let c = status_len(basex::is_listed(reply));
     let behind = basex::strings_behind(reply, status);
-    let d = size_if(0 < behind, error);
-    parts_in_room(room, at, a, b, c, d)
+    let d = basex::size_if(0 < behind, error);
+    wire::parts_in_room(room, at, a, b, c, d)
 }
 
 // The first n of two texts; where the next field starts.

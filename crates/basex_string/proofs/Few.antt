@@ -51,7 +51,8 @@ module _ {s : List ℕ} {from most : ℕ} {t d : List ℕ} {to n i : ℕ} {e : B
       by false k = refl
 
   -- it may stop ahead of what is left, at an FF too
-  pub midst-stop : (k : ℕ) → textRead (reading (drop k s)) ≡ textRead (scan e (drop i s)) → (n + length (textRead (reading (drop k s))) ≡ most) × (splice d (to + n) (textRead (reading (drop k s))) ≡ t)
+  pub midst-stop : (k : ℕ) → textRead (reading (drop k s)) ≡ textRead (scan e (drop i s)) → (n + length (textRead (reading (drop k s))) ≡ most)
+      × (splice d (to + n) (textRead (reading (drop k s))) ≡ t)
   midst-stop k p = let l = ap length p in let a = m .adds in (omega arith, ap (splice d (to + n)) p ∙ m .ahead .makes)
 
   module _ (h : n < most) where

@@ -6,5 +6,5 @@ pub mod Pairs
 pub mod Few
 pub mod Laws
 pub mod Copies
-pub mod Taking
+pub mod Unescaping
 pub mod Room

@@ -86,7 +86,8 @@ text-cons : (e : Bool) (b : ℕ) (l : List ℕ) → 0 < length (textRead (scan e
 unfolding scan
 text-cons true b l = by (special b)
   where
-    by : (t : Bool) → 0 < length (textRead (if t (push b (reading l)) (Got.refused BadEscape))) → opening b true ≡ false → textRead (if t (push b (reading l)) (Got.refused BadEscape)) ≡ b ∷ textRead (reading l)
+    by : (t : Bool) → 0 < length (textRead (if t (push b (reading l)) (Got.refused BadEscape))) → opening b true ≡ false
+        → textRead (if t (push b (reading l)) (Got.refused BadEscape)) ≡ b ∷ textRead (reading l)
     by true h o = text-push b (reading l) h
     by false h o = absurd (omega arith)
 text-cons false b l = by (eqb b 0) (eqb b 255)

@@ -1,12 +1,8 @@
 -- What judging and decoding a string answer, and what a reader leaves in the lent output.
 use mathlib.Core.List.{List}
 use Prim.Native.Nat.{ℕ, _+_, _-_}
-use lib.Dec.{ltb}
-use lib.ListN.{length}
-use Rattle.wire.specs.Bytes.{if}
-use Rattle.wire.specs.Call.{putAt}
-use Rattle.wire.specs.Fields.{Got}
-use Rattle.wire.specs.declared.Refusal.the-variants.{NoRoom}
+use lib.{Dec.ltb, ListN.length}
+use Rattle.wire.specs.{Bytes.if, Call.putAt, Fields.Got, declared.Refusal.the-variants.NoRoom}
 use Rattle.basex_string.specs.declared.StringAt.{StringAt}
 
 -- of n bytes, those behind the string are left: how long it is, and where they start

@@ -1,5 +1,5 @@
 pub mod Strings
 pub mod Scan
 pub mod Answers
-pub mod Taking
+pub mod Unescaping
 pub mod inner

@@ -1,6 +1,5 @@
 -- Document 01, "BaseX": "A string is written with FF before each 00 and FF, then 00." No reader is known here.
-use mathlib.Core.Bool.{Bool, true}
-use mathlib.Core.List.{List, [], _∷_}
+use mathlib.Core.{Bool.Bool, Bool.true, List.List, List.[], List._∷_}
 use Prim.Native.Nat.{ℕ}
 use lib.Dec.{eqb}
 use Rattle.wire.specs.Bytes.{if}

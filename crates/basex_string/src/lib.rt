@@ -192,17 +192,16 @@ pub fn write_string(out: &mut [u8], at: usize, text: &[u8]) -> Counted
     ensures { λ r. ⌜ Writes (inRoom (length (now (out .entry))) at (length (string (now (text .entry)))))
         (now (out .entry)) at (string (now (text .entry))) r (now (out .exit)) ⌝ }
 {
-    match wire::in_room(out.len(), at, string_len(text)) {
-        Counted::Refused(r) => Counted::Refused(r),
-        Counted::Count(n) => {
-            if n == text.len() + 1 {
-                store_plain(out, at, text);
-                return Counted::Count(n);
-            }
-            store_string(out, at, text);
-            Counted::Count(n)
-        }
+    let n = string_len(text);
+    if !wire::has_room(out.len(), at, n) {
+        return Counted::Refused(Refusal::NoRoom);
     }
+    if n == text.len() + 1 {
+        store_plain(out, at, text);
+        return Counted::Count(n);
+    }
+    store_string(out, at, text);
+    Counted::Count(n)
 }
 
 // The string that starts at `at`, judged; nothing is stored.

@@ -7,7 +7,7 @@ ghost use lib.ListN.{length, take, drop};
 ghost use Rattle.wire.specs.Bytes.{splice};
 ghost use Rattle.wire.specs.Call.{Gives};
 ghost use Rattle.basex_string.specs.inner.Runs.{run};
-ghost use Rattle.basex_string.specs.Taking.{taken, ended};
+ghost use Rattle.basex_string.specs.Unescaping.{unescaped, ended};
 use crate::Ends;
 use crate::is_special;
 use crate::plain_block;
@@ -36,8 +36,8 @@ fn put_blocks(bytes: &[u8], from: usize, out: &mut [u8], to: usize, most: usize)
 // Plain bytes one by one, `most` at most; the answer is how many.
 fn put_singles(bytes: &[u8], from: usize, out: &mut [u8], to: usize, most: usize) -> usize
     requires { ⌜ (from + most ≤ length (now bytes)) × (to + most ≤ length (now out)) ⌝ }
-    ensures { λ r. ⌜ (r ≡ min most (run (drop from (now (bytes .entry)))))
-        × (now (out .exit) ≡ splice (now (out .entry)) to (take r (drop from (now (bytes .entry))))) ⌝ }
+    ensures { λ r. ⌜ Gives (min most (run (drop from (now (bytes .entry)))))
+        (splice (now (out .entry)) to (take r (drop from (now (bytes .entry))))) r (now (out .exit)) ⌝ }
 {
     let mut k: usize = 0;
     while k < most {
@@ -54,8 +54,8 @@ fn put_singles(bytes: &[u8], from: usize, out: &mut [u8], to: usize, most: usize
 // All plain bytes from `from` on that there is room for; the answer is how many.
 fn put_run(bytes: &[u8], from: usize, out: &mut [u8], to: usize) -> usize
     requires { ⌜ (from ≤ length (now bytes)) × (to ≤ length (now out)) ⌝ }
-    ensures { λ r. ⌜ (r ≡ min (length (now (out .entry)) - to) (run (drop from (now (bytes .entry)))))
-        × (now (out .exit) ≡ splice (now (out .entry)) to (take r (drop from (now (bytes .entry))))) ⌝ }
+    ensures { λ r. ⌜ Gives (min (length (now (out .entry)) - to) (run (drop from (now (bytes .entry)))))
+        (splice (now (out .entry)) to (take r (drop from (now (bytes .entry))))) r (now (out .exit)) ⌝ }
 {
     let most = least(bytes.len() - from, out.len() - to);
     let blocks = put_blocks(bytes, from, out, to, most);
@@ -65,8 +65,8 @@ fn put_run(bytes: &[u8], from: usize, out: &mut [u8], to: usize) -> usize
 // The text of the judged string at `at`, decoded into the output from `to` on. The caller has seen that
 // it fits; of bytes that no one judged, what stands there up to a 00 is stored as far as there is room.
 pub fn store_judged_text(bytes: &[u8], at: usize, out: &mut [u8], to: usize) -> Ends
-    ensures { λ r. ⌜ Gives (ended at (length (now (bytes .entry)) - at) to (taken (length (now (out .entry)) - to) (drop at (now (bytes .entry)))))
-        (splice (now (out .entry)) to (taken (length (now (out .entry)) - to) (drop at (now (bytes .entry))) .text)) r (now (out .exit)) ⌝ }
+    ensures { λ r. ⌜ Gives (ended at (length (now (bytes .entry)) - at) to (unescaped (length (now (out .entry)) - to) (drop at (now (bytes .entry)))))
+        (splice (now (out .entry)) to (unescaped (length (now (out .entry)) - to) (drop at (now (bytes .entry))) .text)) r (now (out .exit)) ⌝ }
 {
     let mut i = at;
     let mut n = to;

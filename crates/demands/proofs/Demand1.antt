@@ -1,11 +1,10 @@
 -- Demand 1 holds: of messages and the session, of cutting and joining, and of BaseX.
 use Rattle.sedna_laws.proofs.Due.{refused-exact}
-use Rattle.sedna_laws.proofs.Lists.{lists-together, lists-refused, lists-left}
+use Rattle.sedna_laws.proofs.Lists.{lists-together, lists-refused, lists-unwritten}
 use Rattle.sedna_laws.proofs.Pieces.{pieces-bytes}
 use Rattle.sedna_laws.proofs.Stands.{refusal-stands}
 use Rattle.sedna_laws.proofs.Unwritten.{unwritten-exact}
 use Rattle.wire.proofs.Call.{refused-leaves}
-use Rattle.sedna.specs.Encode.{encode}
 use Rattle.session_laws.proofs.Refused.{step-refused}
 use Rattle.parts_laws.proofs.PartDue.{part-due}
 use Rattle.parts_join.proofs.Offered.{offered}
@@ -19,10 +18,9 @@ sedna = record {
   fields-encoded = pieces-bytes;
   refusal-stands = refusal-stands;
   writing-refused = unwritten-exact;
-  writing-leaves = λ out m r e. refused-leaves _ r out 0 (encode m) e;
   lists-together = lists-together;
   lists-refused = lists-refused;
-  lists-left = lists-left;
+  lists-unwritten = lists-unwritten;
   step-refused = step-refused;
   lent-refused = step-refused;
 }
@@ -35,4 +33,4 @@ parts = record {
 }
 
 pub demand-1 : Demand1
-demand-1 = record { sedna = sedna; parts = parts; basex = basex }
+demand-1 = record { sedna = sedna; parts = parts; basex = basex; writing-leaves = λ x r e out at bytes. refused-leaves x r out at bytes e }

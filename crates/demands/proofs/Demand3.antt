@@ -83,7 +83,7 @@ demand-3 = record {
       let i = holds-after step accepting Right Follows goes [] freshSession offers fresh-follows in
       record {
         begun = begins i;
-        judged = all-right step accepting Right Follows goes [] freshSession offers fresh-follows;
+        right = all-right step accepting Right Follows goes [] freshSession offers fresh-follows;
         whole = whole-closed i;
         turned = turn-exact i;
       };

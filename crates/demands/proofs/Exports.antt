@@ -32,8 +32,8 @@ use Rattle.session_laws.proofs.Published.{published-sent}
 use Rattle.session_laws.proofs.Turn.{turn-exact}
 use Rattle.sedna_c.specs.Codes.{readCode, fieldsLeft}
 use Rattle.sedna_c.specs.Sessions.{recordIn, recordPut, sideStepped, kept, turnNumber}
-use Rattle.demands.specs.Answered.{Answered, answered}
-use Rattle.demands.specs.Exports.{Call, Told, called, Why, RightCall, accepting, Closes, Turns, After, Demand3Exports}
+use Rattle.demands.specs.Answered.{Answered, answered, Call, Told}
+use Rattle.demands.specs.Exports.{called, Why, RightCall, accepting, Closes, Turns, After, Demand3Exports}
 use Rattle.demands.specs.Header.{SideOf, client, server, TurnOf}
 use Rattle.demands.proofs.SednaCalls.{is-offered, Sides, sides, is-client, is-server}
 use Rattle.demands.proofs.Tells as tells
@@ -42,8 +42,8 @@ use Rattle.demands.proofs.Tells.{counted, read-count, behind}
 -- what a call makes of a step
 abbrev calledAs : List ℕ → Call → Stepped → Done (List ℕ) Told
 calledAs d c x = record {
-  record-after = kept (x .answer) (x .session) (length (c .fields)) d;
-  answer = record { answer = answered (readCode (x .answer) (length (c .fields))); fields = fieldsLeft (x .answer) (c .fields) };
+  record-after = kept (x .answer) (x .session) (length (c .numbers)) d;
+  answer = record { answer = answered (readCode (x .answer) (length (c .numbers))); numbers = fieldsLeft (x .answer) (c .numbers) };
 }
 
 -- what a side's step is
@@ -77,28 +77,28 @@ module _ (before : List Message) (d : List ℕ) (two : 2 ≤ length d) (c : Call
     -- a message that is accepted, where the numbers have room for it
     takes : (m : Message) (n : ℕ) → reading side (c .bytes) ≡ Answer.accepted m n → {s : Session} → Follows (before ++ (m ∷ [])) s
         → Goes before d c (calledAs d c (byPlaces (record { session = s; answer = Answer.accepted m n })))
-    takes m n e {s} f = by (ltb (length (c .fields)) 10) refl
+    takes m n e {s} f = by (ltb (length (c .numbers)) 10) refl
       where
-        by : (t : Bool) → ltb (length (c .fields)) 10 ≡ t → Goes before d c (calledAs d c (byPlaces (record { session = s; answer = Answer.accepted m n })))
-        by true short = rw short (refused NoRoom (Why.no-room side m n is e (begins f) (ltb-true (length (c .fields)) 10 short)))
+        by : (t : Bool) → ltb (length (c .numbers)) 10 ≡ t → Goes before d c (calledAs d c (byPlaces (record { session = s; answer = Answer.accepted m n })))
+        by true short = rw short (refused NoRoom (Why.no-room m n (record { side = side; is = is; read = e }) (begins f) (ltb-true (length (c .numbers)) 10 short)))
         by false room =
             rw (room, read-count side (c .bytes) (c .are-bytes) m n e, is-offered (c .bytes) is e) (
-              RightCall.accepted side m n (recordPut s d) _ is e (begins f) (ltb-false (length (c .fields)) 10 room)
-                  (tells.tells side (c .bytes) (c .are-bytes) m n e (drop 10 (c .fields)))
-                  (behind (m .instruction) (placesOf 8 (n - 8) (m .body)) (drop 10 (c .fields))) refl,
+              RightCall.accepted m n (recordPut s d) _ (record { side = side; is = is; read = e }) (begins f) (ltb-false (length (c .numbers)) 10 room)
+                  (tells.tells side (c .bytes) (c .are-bytes) m n e (drop 10 (c .numbers)))
+                  (behind (m .instruction) (placesOf 8 (n - 8) (m .body)) (drop 10 (c .numbers))) refl,
               record { two = omega arith; follows = f },
             )
 
     settled-so : (m : Message) (n : ℕ) → reading side (c .bytes) ≡ Answer.accepted m n → {x : Outcome} → Settled before (recordIn d) m n x → Goes before d c (calledAs d c (byPlaces x))
     settled-so m n e (moved f) = takes m n e f
-    settled-so m n e (nine b) = refused OutOfOrder (Why.out-of-order side m n is e b)
+    settled-so m n e (nine b) = refused OutOfOrder (Why.out-of-order m n (record { side = side; is = is; read = e }) b)
 
     stepped-so : Goes before d c (calledAs d c (stepped (recordIn d) side (c .bytes)))
     unfolding stepped
     stepped-so = by (reading side (c .bytes)) refl
       where
         by : (a : Answer) → reading side (c .bytes) ≡ a → Goes before d c (calledAs d c (byPlaces (outcome (recordIn d) (reading side (c .bytes)))))
-        by (Answer.refused r) e = rw e (refused r (Why.unread side r is e))
+        by (Answer.refused r) e = rw e (refused r (Why.unread r (record { side = side; is = is; read = e })))
         by (Answer.accepted m n) e =
             rw e (settled-so m n e (settles i m n (published-sent (exact side (c .bytes) (c .are-bytes) m n .0 e .0))))
 
@@ -117,13 +117,16 @@ closes before d two i = by (closedOf (recordIn d)) refl
     whole = whole-closed i .1
 
     by : (t : Bool) → closedOf (recordIn d) ≡ t → Closes before d
-    by true e = record { over = rw (le-ltb (length d) 2 two, e) (λ _. whole-closed i .0 e, λ _. refl); goes-on = rw (le-ltb (length d) 2 two, e) (λ z. absurd (omega (arith, z)), λ no. absurd (no (whole-closed i .0 e))) }
+    by true e = record {
+      over = rw (le-ltb (length d) 2 two, e) (λ _. whole-closed i .0 e, λ _. refl);
+      goes-on = rw (le-ltb (length d) 2 two, e) (λ z. absurd (omega (arith, z)), λ no. absurd (no (whole-closed i .0 e)));
+    }
     by false e =
         let no : Whole before → ⊥ = λ w. apart (let z : true ≡ false = sym (whole w) ∙ e in cc) in
         record { over = rw (le-ltb (length d) 2 two, e) (λ z. absurd (omega (arith, z)), λ w. absurd (no w)); goes-on = rw (le-ltb (length d) 2 two, e) (λ _. no, λ _. refl) }
 
 turns : (before : List Message) (d : List ℕ) → 2 ≤ length d → Follows before (recordIn d) → Turns before d
-turns before d two i = record { turn = sideOf (turnOf (recordIn d)); told = rw (le-ltb (length d) 2 two) (number (turnOf (recordIn d))); has = turn-exact i }
+turns before d two i = record { turn = sideOf (turnOf (recordIn d)); names = rw (le-ltb (length d) 2 two) (number (turnOf (recordIn d))); has = turn-exact i }
   where
     number : (t : Turn) → TurnOf (turnNumber t) (sideOf t)
     number (Of Client) = TurnOf.somebody client
@@ -147,5 +150,12 @@ pub demand-3-exports : Demand3Exports
 demand-3-exports = record {
   after-any-calls = λ d two calls. rw (le-ltb (length d) 2 two) (after (recordPut freshSession d) (record { two = omega arith; follows = fresh-follows }) calls);
   fresh = λ d two. rw (le-ltb (length d) 2 two) (counted 0 (omega arith), refl);
-  no-record = λ d short c. rw (lt-ltb (length d) 2 short) (tells.refused NoRoom, refl, ap (λ (x : Answered). record { record-after = d; answer = record { answer = x; fields = c .fields } }) (tells.refused NoRoom), refl, refl);
+  no-record = λ d short c. rw (lt-ltb (length d) 2 short) (
+    tells.refused NoRoom,
+    refl,
+    ap
+        (λ (x : Answered). record { record-after = d; answer = record { answer = x; numbers = c .numbers } }) (tells.refused NoRoom),
+    refl,
+    refl,
+  );
 }

@@ -34,7 +34,7 @@ use Rattle.parts_laws.proofs.PartDue.{part-due}
 use Rattle.parts_join.specs.declared.Answer.the-variants as answer
 use Rattle.parts_join.specs.declared.Assembly.{Assembly}
 use Rattle.parts_join.specs.declared.Open.{Open}
-use Rattle.parts_join.specs.declared.Open.the-variants.{Nothing, Statement, Item, TypedItem}
+use Rattle.parts_join.specs.declared.Open.the-variants.{Nothing}
 use Rattle.parts_join.specs.Answers.{Reply, reply, bytesHanded}
 use Rattle.parts_join.specs.Joining.{opened, joined, bufferAfter}
 use Rattle.parts_join.specs.Refusals.{spoilt}
@@ -42,12 +42,12 @@ use Rattle.parts_join.proofs.Refusals.{handed-inside, refusal-leaves}
 use Rattle.sedna_c.specs.Codes.{sideReading}
 use Rattle.parts_c.specs.declared.joining.Meant.{Meant}
 use Rattle.parts_c.specs.declared.joining.Meant.the-variants as meant
-use Rattle.parts_c.specs.Joining.{openOf, assemblyPut, meantBy, openCode, openAfter, answerCode, toldAfter, unchanged, messageJoined, readingJoined, meantJoined, outcome}
+use Rattle.parts_c.specs.Joining.{openOf, assemblyPut, meantBy, openCode, openAfter, answerCode, toldAfter, unchanged as leftAlone, messageJoined, readingJoined, meantJoined, outcome}
 use Rattle.parts_c.proofs.Meant.{meant-same}
-use Rattle.demands.specs.Answered.{Answered, answered}
+use Rattle.demands.specs.Answered.{Answered, answered, Call, unchanged}
 use Rattle.demands.specs.Gatherings.{Gathering, Means, TOLD-LENGTH, TellsReply}
 use Rattle.demands.specs.Header.{_at_, SideOf}
-use Rattle.demands.specs.PartsCalls.{SIZES, OpenRight, Join, turned, joinCalled, untouched, Lent, Offers, refusedNumbers, replied, grownTo, JoinRight, PartCalled, PartsCalls}
+use Rattle.demands.specs.PartsCalls.{SIZES, OpenRight, Keeps, turned, joinCalled, Lent, Offers, refusedNumbers, replied, grownTo, JoinRight, PartCalled, PartsCalls}
 use Rattle.demands.specs.SednaCalls.{writtenAs}
 use Rattle.demands.proofs.Gatherings.{gathering-of, means-put, means-bytes, MeansIn, meant-means, joined-bytes, one-assembly, one-reply}
 use Rattle.demands.proofs.SednaCalls.{Sides, sides, is-client, is-server, side-read, side-nobody, write}
@@ -140,96 +140,101 @@ opens what d = by (ltb (length d) 7) refl (eqb what 0) refl (ltb 3 what) refl
         (OpenRight.fresh (openOf what) (assemblyPut (opened (openOf what)) d) (ltb-false (length d) 7 room) g (some-one what (openOf what) g (eqb-false what 0 p))
         (means-put (opened (openOf what)) d (omega arith, omega arith, omega arith)) refl)
 
-module _ (c : Join) where
-  stays : (r : Refusal) → JoinRight c (untouched (numberOf r) c) → JoinRight c (turned (unchanged r (c .assembly) (c .buffer) (c .told)))
+module _ (s : Keeps) (c : Call) where
+  stays : (r : Refusal) → JoinRight s c (unchanged (numberOf r) s c) → JoinRight s c (turned (leftAlone r (s .assembly) (s .buffer) (c .numbers)))
   stays r x = rw (refused r) x
 
-  module _ (lent : Lent c) (a : Assembly) (is-meant : meantBy (c .assembly) ≡ meant.Is a) (means : Means (c .assembly) a) where
-    module _ (s : Side) (is : SideOf (c .side) s) (m : Message) (n : ℕ) (e : reading s (c .bytes) ≡ Answer.accepted m n) where
-      offers : Offers c a m n
-      offers = record { lent = lent; means = means; side = s; is = is; read = e }
+  module _ (lent : Lent s c) (a : Assembly) (is-meant : meantBy (s .assembly) ≡ meant.Is a) (means : Means (s .assembly) a) where
+    module _ (of : Side) (is : SideOf (c .side) of) (m : Message) (n : ℕ) (e : reading of (c .bytes) ≡ Answer.accepted m n) where
+      offers : Offers s c a m n
+      offers = record { lent = lent; means = means; reads = record { side = of; is = is; read = e } }
 
-      means-after : Means (assemblyPut (grownTo c a m) (c .assembly)) (grownTo c a m)
-      means-after = means-put (grownTo c a m) (c .assembly) (joined-bytes a (length (c .buffer)) m (means-bytes means))
+      means-after : Means (assemblyPut (grownTo s a m) (s .assembly)) (grownTo s a m)
+      means-after = means-put (grownTo s a m) (s .assembly) (joined-bytes a (length (s .buffer)) m (means-bytes means))
 
-      message-joined : JoinRight c (turned (messageJoined m n a (c .assembly) (c .buffer) (c .told)))
-      message-joined = by (joined a (length (c .buffer)) m .answer) refl
+      message-joined : JoinRight s c (turned (messageJoined m n a (s .assembly) (s .buffer) (c .numbers)))
+      message-joined = by (joined a (length (s .buffer)) m .answer) refl
         where
-          inside : bytesHanded (replied c a m) ≤ length (c .buffer)
-          inside = handed-inside a (length (c .buffer)) m
+          inside : bytesHanded (replied s a m) ≤ length (s .buffer)
+          inside = handed-inside a (length (s .buffer)) m
 
           Goal : Joins → Type 0
-          Goal x = JoinRight c (record { answer = answered (answerCode x n); assembly = assemblyPut (grownTo c a m) (c .assembly); buffer = bufferAfter a (c .buffer) m; told = toldAfter x (c .told) })
+          Goal x = JoinRight s c (turned (record {
+            code = answerCode x n;
+            assembly = assemblyPut (grownTo s a m) (s .assembly);
+            buffer = bufferAfter a (s .buffer) m;
+            told = toldAfter x (c .numbers);
+          }))
 
-          took : (x : Joins) → joined a (length (c .buffer)) m .answer ≡ x → answerCode x n ≡ n → TellsReply (toldAfter x (c .told)) (reply x)
-              → toldAfter x (c .told) at TOLD-LENGTH ≡ bytesHanded (reply x) → drop 4 (toldAfter x (c .told)) ≡ drop 4 (c .told) → Goal x
+          took : (x : Joins) → joined a (length (s .buffer)) m .answer ≡ x → answerCode x n ≡ n → TellsReply (toldAfter x (c .numbers)) (reply x)
+              → toldAfter x (c .numbers) at TOLD-LENGTH ≡ bytesHanded (reply x) → drop 4 (toldAfter x (c .numbers)) ≡ drop 4 (c .numbers) → Goal x
           took x q code tells size behind =
-              rw (code, read-count s (c .bytes) (c .are-bytes) m n e)
-              (JoinRight.taken a m n (assemblyPut (grownTo c a m) (c .assembly)) (toldAfter x (c .told)) offers
-              (subst (TellsReply (toldAfter x (c .told))) (sym (ap reply q)) tells)
-              (subst (λ (k : ℕ). k ≤ length (c .buffer)) (ap (λ (y : Joins). bytesHanded (reply y)) q ∙ sym size) inside)
+              rw (code, read-count of (c .bytes) (c .are-bytes) m n e)
+              (JoinRight.accepted a m n (assemblyPut (grownTo s a m) (s .assembly)) (toldAfter x (c .numbers)) offers
+              (subst (TellsReply (toldAfter x (c .numbers))) (sym (ap reply q)) tells)
+              (subst (λ (k : ℕ). k ≤ length (s .buffer)) (ap (λ (y : Joins). bytesHanded (reply y)) q ∙ sym size) inside)
               behind means-after refl)
 
-          by : (x : Joins) → joined a (length (c .buffer)) m .answer ≡ x → Goal x
+          by : (x : Joins) → joined a (length (s .buffer)) m .answer ≡ x → Goal x
           by answer.Part q = took answer.Part q refl (TellsReply.part Gathering.nothing (refl, (refl, (refl, tt)))) refl refl
           by (answer.Statement format k) q = took (answer.Statement format k) q refl (TellsReply.statement Gathering.statement (refl, tt)) refl refl
           by (answer.Item k) q = took (answer.Item k) q refl (TellsReply.item Gathering.item (refl, (refl, tt))) refl refl
           by (answer.TypedItem class kind k) q = took (answer.TypedItem class kind k) q refl (TellsReply.typed-item Gathering.typed-item) refl refl
           by (answer.Refused r) q =
-              let number : replied c a m ≡ Reply.number (numberOf r) = ap reply q in
-              let leaves = refusal-leaves a (c .buffer) m (numberOf r) number in
+              let number : replied s a m ≡ Reply.number (numberOf r) = ap reply q in
+              let leaves = refusal-leaves a (s .buffer) m (numberOf r) number in
               rw (refused r, leaves .buffer, numbers (numberOf r) (leaves .assembly))
-              (JoinRight.refused a m n (numberOf r) offers number (subst (λ (d : List ℕ). Means d (grownTo c a m)) (numbers (numberOf r) (leaves .assembly)) means-after))
+              (JoinRight.refused a m n (numberOf r) offers number (subst (λ (d : List ℕ). Means d (grownTo s a m)) (numbers (numberOf r) (leaves .assembly)) means-after))
             where
               -- the mark is set, or all is as it was
-              numbers : (k : ℕ) → grownTo c a m ≡ if (eqb k 12) (spoilt a) a → assemblyPut (grownTo c a m) (c .assembly) ≡ refusedNumbers k (c .assembly)
-              numbers k e = ap (λ (b : Assembly). assemblyPut b (c .assembly)) e ∙ by-mark (eqb k 12)
+              numbers : (k : ℕ) → grownTo s a m ≡ if (eqb k 12) (spoilt a) a → assemblyPut (grownTo s a m) (s .assembly) ≡ refusedNumbers k (s .assembly)
+              numbers k e = ap (λ (b : Assembly). assemblyPut b (s .assembly)) e ∙ by-mark (eqb k 12)
                 where
-                  same : assemblyPut a (c .assembly) ≡ c .assembly
-                  same = meant-same (c .assembly) a (lent .0) is-meant
+                  same : assemblyPut a (s .assembly) ≡ s .assembly
+                  same = meant-same (s .assembly) a (lent .0) is-meant
 
-                  by-mark : (t : Bool) → assemblyPut (if t (spoilt a) a) (c .assembly) ≡ if t (set (c .assembly) 3 1) (c .assembly)
+                  by-mark : (t : Bool) → assemblyPut (if t (spoilt a) a) (s .assembly) ≡ if t (set (s .assembly) 3 1) (s .assembly)
                   by-mark true = ap (λ (d : List ℕ). set d 3 1) same
                   by-mark false = same
 
-    by-side : (s : Side) → SideOf (c .side) s → JoinRight c (turned (readingJoined (located (reading s (c .bytes))) a (c .bytes) (c .assembly) (c .buffer) (c .told)))
-    by-side s is = by (reading s (c .bytes)) refl
+    by-side : (of : Side) → SideOf (c .side) of → JoinRight s c (turned (readingJoined (located (reading of (c .bytes))) a (c .bytes) (s .assembly) (s .buffer) (c .numbers)))
+    by-side of is = by (reading of (c .bytes)) refl
       where
-        by : (x : Answer) → reading s (c .bytes) ≡ x → JoinRight c (turned (readingJoined (located x) a (c .bytes) (c .assembly) (c .buffer) (c .told)))
-        by (Answer.refused r) e = stays r (JoinRight.unread a s r lent means is e)
-        by (Answer.accepted m n) e = subst (λ (x : Message). JoinRight c (turned (messageJoined x n a (c .assembly) (c .buffer) (c .told)))) (sym same) (message-joined s is m n e)
+        by : (x : Answer) → reading of (c .bytes) ≡ x → JoinRight s c (turned (readingJoined (located x) a (c .bytes) (s .assembly) (s .buffer) (c .numbers)))
+        by (Answer.refused r) e = stays r (JoinRight.unread a r lent means (record { side = of; is = is; read = e }))
+        by (Answer.accepted m n) e = subst (λ (x : Message). JoinRight s c (turned (messageJoined x n a (s .assembly) (s .buffer) (c .numbers)))) (sym same) (message-joined of is m n e)
           where
             messageOf : Answer → Message
             messageOf (Answer.refused r) = m
             messageOf (Answer.accepted k j) = k
 
             same : record { instruction = m .instruction; body = bodyIn (c .bytes) (placesOf 8 (n - 8) (m .body)) } ≡ m
-            same = ap messageOf (rw e at (meaning-located s (c .bytes) (c .are-bytes)))
+            same = ap messageOf (rw e at (meaning-located of (c .bytes) (c .are-bytes)))
 
-    with-assembly : JoinRight c (turned (readingJoined (sideReading (c .side) (c .bytes)) a (c .bytes) (c .assembly) (c .buffer) (c .told)))
+    with-assembly : JoinRight s c (turned (readingJoined (sideReading (c .side) (c .bytes)) a (c .bytes) (s .assembly) (s .buffer) (c .numbers)))
     with-assembly = by (sides (c .side))
       where
-        by : Sides (c .side) → JoinRight c (turned (readingJoined (sideReading (c .side) (c .bytes)) a (c .bytes) (c .assembly) (c .buffer) (c .told)))
+        by : Sides (c .side) → JoinRight s c (turned (readingJoined (sideReading (c .side) (c .bytes)) a (c .bytes) (s .assembly) (s .buffer) (c .numbers)))
         by (Sides.one e) = rw (side-read (c .side) Client (c .bytes) (is-client e)) (by-side Client (is-client e))
         by (Sides.two o e) = rw (side-read (c .side) Server (c .bytes) (is-server e)) (by-side Server (is-server e))
         by (Sides.neither o p nobody) = rw (side-nobody (c .side) (c .bytes) o p) (stays ValueNotAllowed (JoinRight.nobody a lent means nobody))
 
-  pub join : JoinRight c (joinCalled c)
+  pub join : JoinRight s c (joinCalled s c)
   unfolding outcome
-  join = by (ltb (length (c .assembly)) 7) refl (ltb (length (c .told)) 4) refl
+  join = by (ltb (length (s .assembly)) 7) refl (ltb (length (c .numbers)) 4) refl
     where
-      meant-so : Lent c → (k : Meant) → meantBy (c .assembly) ≡ k → MeansIn (c .assembly) k
-          → JoinRight c (turned (meantJoined k (sideReading (c .side) (c .bytes)) (c .bytes) (c .assembly) (c .buffer) (c .told)))
+      meant-so : Lent s c → (k : Meant) → meantBy (s .assembly) ≡ k → MeansIn (s .assembly) k
+          → JoinRight s c (turned (meantJoined k (sideReading (c .side) (c .bytes)) (c .bytes) (s .assembly) (s .buffer) (c .numbers)))
       meant-so lent meant.Nothing e (MeansIn.none nobody) = stays ValueNotAllowed (JoinRight.no-assembly lent nobody)
       meant-so lent (meant.Is a) e (MeansIn.is means) = with-assembly lent a e means
 
-      by : (t : Bool) → ltb (length (c .assembly)) 7 ≡ t → (u : Bool) → ltb (length (c .told)) 4 ≡ u
-          → JoinRight c (turned (if t (unchanged NoRoom (c .assembly) (c .buffer) (c .told)) (if u (unchanged NoRoom (c .assembly) (c .buffer) (c .told))
-          (meantJoined (meantBy (c .assembly)) (sideReading (c .side) (c .bytes)) (c .bytes) (c .assembly) (c .buffer) (c .told)))))
-      by true p u q = stays NoRoom (JoinRight.few (inl (ltb-true (length (c .assembly)) 7 p)))
-      by false p true q = stays NoRoom (JoinRight.few (inr (ltb-true (length (c .told)) 4 q)))
+      by : (t : Bool) → ltb (length (s .assembly)) 7 ≡ t → (u : Bool) → ltb (length (c .numbers)) 4 ≡ u
+          → JoinRight s c (turned (if t (leftAlone NoRoom (s .assembly) (s .buffer) (c .numbers)) (if u (leftAlone NoRoom (s .assembly) (s .buffer) (c .numbers))
+          (meantJoined (meantBy (s .assembly)) (sideReading (c .side) (c .bytes)) (c .bytes) (s .assembly) (s .buffer) (c .numbers)))))
+      by true p u q = stays NoRoom (JoinRight.few (inl (ltb-true (length (s .assembly)) 7 p)))
+      by false p true q = stays NoRoom (JoinRight.few (inr (ltb-true (length (c .numbers)) 4 q)))
       by false p false q =
-          meant-so (ltb-false (length (c .assembly)) 7 p, ltb-false (length (c .told)) 4 q) (meantBy (c .assembly)) refl (meant-means (c .assembly))
+          meant-so (ltb-false (length (s .assembly)) 7 p, ltb-false (length (c .numbers)) 4 q) (meantBy (s .assembly)) refl (meant-means (s .assembly))
 
 pub parts-calls : PartsCalls
 parts-calls = record {

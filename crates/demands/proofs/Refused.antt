@@ -8,7 +8,8 @@ use native.Mathlib.Omega.{arith}
 use lib.Dec.{ltb}
 use lib.ListN.{length, drop}
 use Rattle.wire.specs.Bytes.{if}
-use Rattle.wire.specs.Call.{putAt, inRoom, outputAfter}
+use Rattle.wire.specs.Call.{putAt, inRoom}
+use Rattle.wire.proofs.Call.{refused-short}
 use Rattle.wire.specs.Fields.{Got}
 use Rattle.wire.specs.declared.Refusal.{Refusal}
 use Rattle.wire.specs.declared.Refusal.the-variants.{MoreBytes, UnknownInstruction, ValueNotAllowed, NoRoom, BadEscape}
@@ -55,19 +56,16 @@ string-refused b at out to r e = by (scan.reading (drop at b)) refl e
         why (inr m) = inr (inr (inl (number m)))
     by (Got.got t rest) p d = room (ltb (length out) (to + length t)) refl d
       where
-        room : (f : Bool) → ltb (length out) (to + length t) ≡ f → if f (string-at.Refused NoRoom) (string-at.At (length t) (length b - length rest)) ≡ string-at.Refused r → OneOf (1 ∷ 10 ∷ 13 ∷ []) (numberOf r) × (putAt out to t ≡ out)
+        room : (f : Bool) → ltb (length out) (to + length t) ≡ f → if f (string-at.Refused NoRoom) (string-at.At (length t) (length b - length rest)) ≡ string-at.Refused r
+            → OneOf (1 ∷ 10 ∷ 13 ∷ []) (numberOf r) × (putAt out to t ≡ out)
         room true f d = let z : NoRoom ≡ r = cc in (inr (inl (number (sym z))), rw f refl)
         room false f d = let z : _≡_ {A = ℕ} 0 1 = cc in absurd (omega arith)
 
-string-unwritten : (out : List ℕ) (at : ℕ) (text : List ℕ) (r : Refusal) → inRoom (length out) at (length (string text)) ≡ spelled.Refused r → OneOf (10 ∷ []) (numberOf r) × (putAt out at (string text) ≡ out)
-unfolding putAt
-string-unwritten out at text r e = by (ltb (length out) (at + length (string text))) refl e
-  where
-    by : (f : Bool) → ltb (length out) (at + length (string text)) ≡ f → if f (spelled.Refused NoRoom) (spelled.Count (length (string text))) ≡ spelled.Refused r → OneOf (10 ∷ []) (numberOf r) × (putAt out at (string text) ≡ out)
-    by true f d = let z : NoRoom ≡ r = cc in (inl (number (sym z)), rw f refl)
-    by false f d = let z : _≡_ {A = ℕ} 0 1 = cc in absurd (omega arith)
+string-unwritten : (room at : ℕ) (text : List ℕ) (r : Refusal) → inRoom room at (length (string text)) ≡ spelled.Refused r → OneOf (10 ∷ []) (numberOf r)
+string-unwritten room at text r e = inl (number (refused-short room at (length (string text)) r e .0))
 
-request-refused : (s out : List ℕ) (r : Refusal) → requests.requested (length s) (length out) (requests.reading s) ≡ requested-as.Refused r → OneOf (1 ∷ 2 ∷ 10 ∷ 13 ∷ []) (numberOf r) × (outputRead requests.textBytes out 0 (requests.reading s) ≡ out)
+request-refused : (s out : List ℕ) (r : Refusal) → requests.requested (length s) (length out) (requests.reading s) ≡ requested-as.Refused r
+    → OneOf (1 ∷ 2 ∷ 10 ∷ 13 ∷ []) (numberOf r) × (outputRead requests.textBytes out 0 (requests.reading s) ≡ out)
 request-refused s out r e = let x = read-refuses s out r e in (by (x .0), x .1)
   where
     by : InReading r ⊎ (r ≡ NoRoom) → OneOf (1 ∷ 2 ∷ 10 ∷ 13 ∷ []) (numberOf r)
@@ -76,9 +74,9 @@ request-refused s out r e = let x = read-refuses s out r e in (by (x .0), x .1)
     by (inl (inr (inr m))) = inr (inr (inr (inl (number m))))
     by (inr m) = inr (inr (inl (number m)))
 
-request-unwritten : (out : List ℕ) (kind : ℕ) (texts : List (List ℕ)) (r : Refusal) → requesting.written (length out) kind texts ≡ spelled.Refused r
-    → OneOf (2 ∷ 8 ∷ 10 ∷ 11 ∷ []) (numberOf r) × (outputAfter (requesting.written (length out) kind texts) out 0 (requesting.bytesOf kind texts) ≡ out)
-request-unwritten out kind texts r e = let x = write-refuses out kind texts r e in (by (x .0), x .1)
+request-unwritten : (room kind : ℕ) (texts : List (List ℕ)) (r : Refusal) → requesting.written room kind texts ≡ spelled.Refused r
+    → OneOf (2 ∷ 8 ∷ 10 ∷ 11 ∷ []) (numberOf r)
+request-unwritten room kind texts r e = by (write-refuses room kind texts r e)
   where
     by : InWriting r → OneOf (2 ∷ 8 ∷ 10 ∷ 11 ∷ []) (numberOf r)
     by (inl m) = inl (number m)
@@ -100,7 +98,8 @@ response-refused kind s out r e = (by (responses.reading kind s) refl e, refused
     by (Got.refused q) p d = let z : q ≡ r = cc in why (reading-refuses kind s r (p ∙ ap Got.refused z))
     by (Got.got a rest) p d = room (ltb (length out) (length (flatten (allTexts a)))) refl d
       where
-        room : (f : Bool) → ltb (length out) (length (flatten (allTexts a))) ≡ f → responses.answered (length s) (length out) (Got.got a rest) ≡ replied.Refused r → OneOf (1 ∷ 2 ∷ 8 ∷ 10 ∷ 13 ∷ []) (numberOf r)
+        room : (f : Bool) → ltb (length out) (length (flatten (allTexts a))) ≡ f → responses.answered (length s) (length out) (Got.got a rest) ≡ replied.Refused r
+            → OneOf (1 ∷ 2 ∷ 8 ∷ 10 ∷ 13 ∷ []) (numberOf r)
         room true f d = let g : replied.Refused NoRoom ≡ replied.Refused r = rw f at d in let z : NoRoom ≡ r = cc in inr (inr (inr (inl (number (sym z)))))
         room false f d = let g = rw f at d in let z : _≡_ {A = ℕ} 0 1 = cc in absurd (omega arith)
 
@@ -119,27 +118,31 @@ eight = inr (inl refl)
 in-room : (room at n : ℕ) → Refuses (inRoom room at n)
 in-room room at n = either (ltb room (at + n)) (spelled.Refused NoRoom) (spelled.Count n) (inr (inr (inl refl))) tt
 
-refused-so : (out : List ℕ) (at : ℕ) (bytes : List ℕ) (x : Counted) (r : Refusal) → Refuses x → x ≡ spelled.Refused r → OneOf (2 ∷ 8 ∷ 10 ∷ []) (numberOf r) × (outputAfter x out at bytes ≡ out)
-refused-so out at bytes (spelled.Count n) r p e = let z : _≡_ {A = ℕ} 0 1 = cc in absurd (omega arith)
-refused-so out at bytes (spelled.Refused q) r p e = let z : q ≡ r = cc in (rw z at p, refl)
+refused-so : (x : Counted) (r : Refusal) → Refuses x → x ≡ spelled.Refused r → OneOf (2 ∷ 8 ∷ 10 ∷ []) (numberOf r)
+refused-so (spelled.Count n) r p e = let z : _≡_ {A = ℕ} 0 1 = cc in absurd (omega arith)
+refused-so (spelled.Refused q) r p e = let z : q ≡ r = cc in rw z at p
 
 item-refuses : (room at : ℕ) (f : Found) (id : ℕ) (uri text : List ℕ) → Refuses (itemWrittenAs room at f id uri text)
 item-refuses room at Unknown id uri text = inl refl
-item-refuses room at (Known n reply) id uri text = either (listed reply) _ _ (either (idAllowed id) _ _ (either (if (hasUri (isFull reply) id) true (unused 0 (uri ∷ []))) _ _ (in-room room at (length (itemBytes (itemOf (isFull reply) id uri text)))) eight) eight) eight
+item-refuses room at (Known n reply) id uri text = either (listed reply) _ _
+    (either (idAllowed id) _ _ (either (if (hasUri (isFull reply) id) true (unused 0 (uri ∷ []))) _ _ (in-room room at (length (itemBytes (itemOf (isFull reply) id uri text)))) eight) eight) eight
 
 end-refuses : (room at : ℕ) (f : Found) (first second : List ℕ) (status : ℕ) (error : List ℕ) → Refuses (endWrittenAs room at f first second status error)
 end-refuses room at Unknown first second status error = inl refl
-end-refuses room at (Known n reply) first second status error = either (statusAllowed status) _ _ (either (unused (ahead reply) (first ∷ second ∷ [])) _ _ (either (unused (behind reply status) (error ∷ [])) _ _ (in-room room at (length (encode reply (endOf reply first second status error)))) eight) eight) eight
+end-refuses room at (Known n reply) first second status error = either (statusAllowed status) _ _
+    (either (unused (ahead reply) (first ∷ second ∷ [])) _ _ (either (unused (behind reply status) (error ∷ [])) _ _
+    (in-room room at (length (encode reply (endOf reply first second status error)))) eight) eight) eight
 
-item-unwritten : (out : List ℕ) (at kind id : ℕ) (uri text bytes : List ℕ) (r : Refusal) → itemWritten (length out) at kind id uri text ≡ spelled.Refused r
-    → OneOf (2 ∷ 8 ∷ 10 ∷ []) (numberOf r) × (outputAfter (itemWritten (length out) at kind id uri text) out at bytes ≡ out)
+item-unwritten : (room at kind id : ℕ) (uri text : List ℕ) (r : Refusal) → itemWritten room at kind id uri text ≡ spelled.Refused r
+    → OneOf (2 ∷ 8 ∷ 10 ∷ []) (numberOf r)
 unfolding itemWritten
-item-unwritten out at kind id uri text bytes r e = refused-so out at bytes (itemWritten (length out) at kind id uri text) r (item-refuses (length out) at (findOf kind) id uri text) e
+item-unwritten room at kind id uri text r e = refused-so (itemWritten room at kind id uri text) r (item-refuses room at (findOf kind) id uri text) e
 
-end-unwritten : (out : List ℕ) (at kind : ℕ) (first second : List ℕ) (status : ℕ) (error bytes : List ℕ) (r : Refusal) → endWritten (length out) at kind first second status error ≡ spelled.Refused r
-    → OneOf (2 ∷ 8 ∷ 10 ∷ []) (numberOf r) × (outputAfter (endWritten (length out) at kind first second status error) out at bytes ≡ out)
+end-unwritten : (room at kind : ℕ) (first second : List ℕ) (status : ℕ) (error : List ℕ) (r : Refusal)
+    → endWritten room at kind first second status error ≡ spelled.Refused r → OneOf (2 ∷ 8 ∷ 10 ∷ []) (numberOf r)
 unfolding endWritten
-end-unwritten out at kind first second status error bytes r e = refused-so out at bytes (endWritten (length out) at kind first second status error) r (end-refuses (length out) at (findOf kind) first second status error) e
+end-unwritten room at kind first second status error r e =
+    refused-so (endWritten room at kind first second status error) r (end-refuses room at (findOf kind) first second status error) e
 
 pub basex : BaseX
 basex =

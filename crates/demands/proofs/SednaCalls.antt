@@ -9,20 +9,15 @@ use lib.Dec.{eqb, ltb}
 use lib.ListN.{length, drop, getElem?, length-take, length-drop}
 use borrow.Author.Tests.{le-ltb, ltb-true, ltb-false, eqb-true, eqb-false}
 use Rattle.wire.specs.Bytes.{IsBytes, if}
-use Rattle.wire.specs.Call.{inRoom, outputAfter}
+use Rattle.wire.specs.Call.{inRoom}
 use Rattle.wire.specs.declared.Place.{Place}
 use Rattle.wire.specs.declared.Refusal.the-variants.{UnknownInstruction, ValueNotAllowed, NoRoom, NoEncoding}
 use Rattle.answer_c.specs.Codes.{refusalCode, countedCode}
 use Rattle.sedna.specs.declared.Fit.{Fit}
 use Rattle.sedna.specs.declared.Fit.the-variants as fit
-use Rattle.sedna.specs.declared.Found.{Found}
-use Rattle.sedna.specs.declared.Found.the-variants.{Known, Unknown}
 use Rattle.sedna.specs.declared.Shape.{Shape}
-use Rattle.sedna.specs.declared.Shape.the-variants.{Options}
 use Rattle.sedna.specs.declared.Side.{Side}
 use Rattle.sedna.specs.declared.Side.the-variants.{Client, Server}
-use Rattle.sedna.specs.Kinds.{sameShape}
-use Rattle.sedna.specs.Encode.{pairsBytes, encode}
 use Rattle.sedna.specs.Message.{Pair, Body, Message, message}
 use Rattle.sedna.specs.Table.{findOf, fitOf}
 use Rattle.sedna_read.specs.declared.OptionPlace.{OptionPlace}
@@ -34,24 +29,23 @@ use Rattle.sedna_read.specs.Reading.{Answer, reading}
 use Rattle.sedna_read.proofs.Pairs.{option-past}
 use Rattle.wire.specs.declared.Counted.{Counted}
 use Rattle.wire.specs.declared.Counted.the-variants as wrote
-use Rattle.sedna_write.specs.Pairs.{pairsOf}
 use Rattle.sedna_write.specs.Writing.{judgementBy, judgement}
 use Rattle.sedna_c.specs.Codes.{sideReading, readCode, fieldsLeft, optionCode, optionLeft}
 use Rattle.wire.proofs.Branches.{apart}
 use Rattle.sedna_laws.proofs.Bytes.{bytes-part}
-use Rattle.sedna_laws.proofs.Due.{lacking}
 use Rattle.sedna_laws.proofs.Options.{option-exact, option-inside}
-use Rattle.sedna_laws.proofs.Table.{listed-find}
-use Rattle.demands.specs.Answered.{Answered, answered}
-use Rattle.demands.specs.Header.{_at_, slice, Inside, inFront, offeredBy, SideOf, client, server, START-1, LENGTH-1, COUNT}
-use Rattle.demands.specs.SednaCalls.{ReadRight, OptionRight, OptionCalled, writtenAs, ListsRefused, SednaCalls}
+use Rattle.wire.proofs.Call.{refused-leaves}
+use Rattle.sedna_laws.proofs.Lists.{lists-refused, lists-unwritten}
+use Rattle.demands.specs.Answered.{answered}
+use Rattle.demands.specs.Header.{_at_, slice, Inside, messageRead, offeredBy, SideOf, ReadsAs, client, server, START-1, LENGTH-1, COUNT}
+use Rattle.demands.specs.SednaCalls.{ReadRight, OptionRight, OptionCalled, writtenAs, SednaCalls}
 use Rattle.demands.proofs.Tells.{counted, refused, read-count, tells, behind, one-message}
 
 -- what a side's number and bytes offer that read well
 pub is-offered : (bytes : List ℕ) {k : ℕ} {side : Side} {m : Message} {n : ℕ} → SideOf k side → reading side bytes ≡ Answer.accepted m n
     → offeredBy k bytes ≡ m ∷ []
-is-offered bytes client e = ap inFront e
-is-offered bytes server e = ap inFront e
+is-offered bytes client e = ap messageRead e
+is-offered bytes server e = ap messageRead e
 
 -- a side's number, 1 or 2, or none
 pub data Sides (n : ℕ) : Type 0 where
@@ -95,11 +89,12 @@ module _ (side : ℕ) (bytes lent : List ℕ) (are : IsBytes bytes) where
   by-side s is = by (reading s bytes) refl (ltb (length lent) 10) refl
     where
       by : (a : Answer) → reading s bytes ≡ a → (t : Bool) → ltb (length lent) 10 ≡ t → ReadRight side bytes lent (answered (readCode (located a) (length lent))) (fieldsLeft (located a) lent)
-      by (Answer.refused r) e t q = rw (refused r) (ReadRight.unread s r is e)
-      by (Answer.accepted m n) e true short = rw (short, refused NoRoom) (ReadRight.no-room s m n is e (ltb-true (length lent) 10 short))
+      by (Answer.refused r) e t q = rw (refused r) (ReadRight.unread r (record { side = s; is = is; read = e }))
+      by (Answer.accepted m n) e true short = rw (short, refused NoRoom) (ReadRight.no-room m n (record { side = s; is = is; read = e }) (ltb-true (length lent) 10 short))
       by (Answer.accepted m n) e false room =
           rw (room, read-count s bytes are m n e)
-          (ReadRight.told s m n _ is e (ltb-false (length lent) 10 room) (tells s bytes are m n e (drop 10 lent)) (behind (m .instruction) (placesOf 8 (n - 8) (m .body)) (drop 10 lent)))
+          (ReadRight.accepted m n _ (record { side = s; is = is; read = e }) (ltb-false (length lent) 10 room)
+          (tells s bytes are m n e (drop 10 lent)) (behind (m .instruction) (placesOf 8 (n - 8) (m .body)) (drop 10 lent)))
 
   read : ReadRight side bytes lent (answered (readCode (sideReading side bytes) (length lent))) (fieldsLeft (sideReading side bytes) lent)
   read = by (sides side)
@@ -114,9 +109,10 @@ option-there : (bytes lent : List ℕ) (o : OptionPlace) → ((id : ℕ) (v : Pl
 option-there bytes lent place.Missing h = rw (counted 0 (omega arith)) OptionRight.missing
 option-there bytes lent (place.At id v) h = by (ltb (length lent) 3) refl
   where
-    by : (t : Bool) → ltb (length lent) 3 ≡ t → OptionRight bytes lent (some (record { id = id; value = partOf bytes v })) (answered (if t (refusalCode NoRoom) 1)) (if t lent (id ∷ v .start ∷ v .len ∷ drop 3 lent))
+    by : (t : Bool) → ltb (length lent) 3 ≡ t → OptionRight bytes lent (some (record { id = id; value = partOf bytes v })) (answered (if t (refusalCode NoRoom) 1))
+        (if t lent (id ∷ v .start ∷ v .len ∷ drop 3 lent))
     by true short = rw (refused NoRoom) (OptionRight.no-room _ (ltb-true (length lent) 3 short))
-    by false room = rw (counted 1 (omega arith)) (OptionRight.told _ _ (ltb-false (length lent) 3 room) refl (h id v refl) refl)
+    by false room = rw (counted 1 (omega arith)) (OptionRight.found _ _ (ltb-false (length lent) 3 room) refl (h id v refl) refl)
 
 -- a place behind the bytes has no option, and any other one lies in them
 option-in : (bytes : List ℕ) → IsBytes bytes → (start len k id : ℕ) (v : Place) → optionAt k start (slice bytes start len) ≡ place.At id v → Inside bytes (v .start) (v .len)
@@ -132,13 +128,13 @@ option : (bytes : List ℕ) → IsBytes bytes → (start length′ k : ℕ) (len
 option bytes are start length′ k lent = option-there bytes lent (optionAt k start (slice bytes start length′)) (option-in bytes are start length′ k)
 
 options : (side : ℕ) (bytes f : List ℕ) → IsBytes bytes → 10 ≤ length f
-    → (s : Side) (i n : ℕ) (ps : List Pair) → SideOf side s → reading s bytes ≡ Answer.accepted (message i (Body.options ps)) n
+    → (i n : ℕ) (ps : List Pair) → ReadsAs side bytes (Answer.accepted (message i (Body.options ps)) n)
     → (fieldsLeft (sideReading side bytes) f at COUNT ≡ length ps)
     × ((k : ℕ) (lent : List ℕ)
     → OptionCalled bytes (fieldsLeft (sideReading side bytes) f at START-1) (fieldsLeft (sideReading side bytes) f at LENGTH-1) k lent (getElem? ps k))
-options side bytes f are room s i n ps is e =
-    rw (side-read side s bytes is, e, le-ltb (length f) 10 room)
-    (refl, λ k lent. subst (OptionCalled bytes 8 (n - 8) k lent) (option-exact s bytes are i n ps e k) (option bytes are 8 (n - 8) k lent))
+options side bytes f are room i n ps r =
+    rw (side-read side (r .side) bytes (r .is), r .read, le-ltb (length f) 10 room)
+    (refl, λ k lent. subst (OptionCalled bytes 8 (n - 8) k lent) (option-exact (r .side) bytes are i n ps (r .read) k) (option bytes are 8 (n - 8) k lent))
 
 roomed : (n room : ℕ) → n ≤ 10248 → answered (countedCode (inRoom room 0 n)) ≡ writtenAs (inRoom room 0 n)
 roomed n room short = by (ltb room (0 + n))
@@ -162,25 +158,6 @@ pub write : (instruction : ℕ) (shape : Shape) (ok : Bool) (n room : ℕ) → a
 unfolding judgement
 write instruction shape ok n room = judged (fitOf (findOf instruction) shape) ok n room
 
-lists-refused : (instruction n : ℕ) (out : List ℕ) (m : Message)
-    → ListsRefused instruction out (answered (countedCode (judgement instruction Options false n (length out)))) (outputAfter (judgement instruction Options false n (length out)) out 0 (encode m))
-unfolding judgement
-lists-refused instruction n out m = by (findOf instruction) refl
-  where
-    Refused : Counted → Type 0
-    Refused w = ListsRefused instruction out (answered (countedCode w)) (outputAfter w out 0 (encode m))
-
-    by : (x : Found) → findOf instruction ≡ x → Refused (judgementBy (fitOf x Options) false n (length out))
-    by Unknown e = rw (refused UnknownInstruction) (ListsRefused.unknown (lacking instruction e))
-    by (Known sender own) e = shaped (sameShape own Options)
-      where
-        value : ListsRefused instruction out (Answered.refusal 8) out
-        value = ListsRefused.value (instruction, sender, own) (listed-find instruction sender own e) refl
-
-        shaped : (t : Bool) → Refused (judgementBy (if t fit.Same fit.Other) false n (length out))
-        shaped true = rw (refused ValueNotAllowed) value
-        shaped false = rw (refused ValueNotAllowed) value
-
 pub sedna-calls : SednaCalls
 sedna-calls = record {
   one-message = one-message;
@@ -189,5 +166,10 @@ sedna-calls = record {
   options = options;
   write = write;
   lists = λ instruction ids lengths values out e.
-      rw e (lists-refused instruction (length (pairsBytes (pairsOf ids lengths values))) out (message instruction (Body.options (pairsOf ids lengths values))));
+      let x = lists-unwritten (length out) instruction ids lengths values e in (
+        x .0,
+        lists-refused (length out) instruction ids lengths values e (x .0) .0 (x .1),
+        ap (λ (w : Counted). answered (countedCode w)) (x .1) ∙ refused (x .0),
+        refused-leaves _ (x .0) out 0 _ (x .1),
+      );
 }

@@ -29,7 +29,8 @@ use Rattle.sedna_laws.proofs.Meaning.{meaning-located}
 use Rattle.sedna_laws.proofs.Options.{option-exact}
 use Rattle.sedna_laws.proofs.Written.{encode-length}
 use Rattle.demands.specs.Answered.{Answered, REFUSED, answered}
-use Rattle.demands.specs.Header.{_at_, slice, Inside, upTo, INSTRUCTION, SHAPE, START-1, LENGTH-1, START-2, LENGTH-2, COUNT, HAS-URL, MAJOR, MINOR, FORMAT, CODE, CLASS, TYPE, URL-START, URL-LENGTH, pairTold, optionNumbers, Row, Tells}
+use Rattle.demands.specs.Header.{_at_, slice, Inside, upTo, INSTRUCTION, SHAPE, START-1, LENGTH-1, START-2, LENGTH-2, COUNT, HAS-URL, MAJOR, MINOR}
+use Rattle.demands.specs.Header.{FORMAT, CODE, CLASS, TYPE, URL-START, URL-LENGTH, pairTold, optionNumbers, Row, Tells}
 
 pub counted : (n : ℕ) → n < 9223372036854775808 → answered n ≡ Answered.count n
 counted n h = rw (lt-ltb n REFUSED h)

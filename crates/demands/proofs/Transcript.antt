@@ -76,7 +76,8 @@ number-meant s (read.Refused r) = refl
 number-meant s (read.Message i places n) = refl
 
 -- where nothing is left over, a record is answered what the step answers
-answered-offered : (s : Session) (r : Record) (b : IsBytes (r .payload)) → NoneLeft r → answered s r ≡ record { number = numbered (step s (offer r b) .answer); session = step s (offer r b) .record-after }
+answered-offered : (s : Session) (r : Record) (b : IsBytes (r .payload)) → NoneLeft r
+    → answered s r ≡ record { number = numbered (step s (offer r b) .answer); session = step s (offer r b) .record-after }
 unfolding answered stepped
 answered-offered s r b all =
     by (readAs r) refl ∙ ap (λ (n : ℕ). record { number = n; session = step s (offer r b) .record-after }) (number-meant (r .payload) (stepped s (r .side) (r .payload) .answer))
@@ -198,7 +199,7 @@ demand-3-transcript = record {
       let whole : (closedOf u ≡ true) ↔ Whole (acceptedIn input) = whole-closed i in
       record {
         begun = begins i;
-        judged = all-right-for recordCall accepting Right Follows Payload records-go [] freshSession (recordsIn input) bs fresh-follows;
+        right = all-right-for recordCall accepting Right Follows Payload records-go [] freshSession (recordsIn input) bs fresh-follows;
         closed = says-closed _ u whole (records input .damaged);
         still-open = says-open _ u whole (records input .damaged);
         damaged = says-damaged (records input .damaged) u;

@@ -30,7 +30,7 @@ use Rattle.sedna_value_laws.specs.Texts.{Means}
 use Rattle.sedna_value_laws.proofs.Order.{Lies, order-is, in-order}
 use Rattle.sedna_value_laws.proofs.Valuing.{valuing}
 use Rattle.value_c.specs.Orders.{orderNumber}
-use Rattle.value_c.specs.Values.{numbersOf, Outcome, unchanged, inFront, lentOutcome, valuedOutcome, outcome}
+use Rattle.value_c.specs.Values.{numbersOf, Outcome, unchanged, valueTold, lentOutcome, valuedOutcome, outcome}
 use Rattle.demands.specs.Answered.{Answered, answered}
 use Rattle.demands.proofs.Tells.{refused}
 use Rattle.demands.specs.ValueCalls.{TellsValue, ValueRight, OutcomeRight, CompareRight, CompareByNumbers, ValueCalls}
@@ -79,11 +79,11 @@ module _ (class type : ℕ) (text : List ℕ) (numbers : List ℤ) (doubles : Li
   meant t v m = by (ltb (length numbers) 2) refl (ltb (length doubles) 1) refl
     where
       by : (p : Bool) → ltb (length numbers) 2 ≡ p → (q : Bool) → ltb (length doubles) 1 ≡ q
-          → Right (if p (unchanged NoRoom numbers doubles) (if q (unchanged NoRoom numbers doubles) (inFront (numbersOf v) numbers doubles)))
+          → Right (if p (unchanged NoRoom numbers doubles) (if q (unchanged NoRoom numbers doubles) (valueTold (numbersOf v) numbers doubles)))
       by true p q r = ValueRight.few t v m (inl (ltb-true _ _ p))
       by false p true r = ValueRight.few t v m (inr (ltb-true _ _ r))
       by false p false r =
-          let o : Outcome = inFront (numbersOf v) numbers doubles in
+          let o : Outcome = valueTold (numbersOf v) numbers doubles in
           subst (λ (x : Answered). ValueRight class type text numbers doubles x (o .numbers) (o .doubles)) (sym (counts v))
           (ValueRight.value t v _ _ _ _ m (ltb-false _ _ p) (ltb-false _ _ r) (tells v))
 

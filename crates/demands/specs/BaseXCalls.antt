@@ -3,41 +3,27 @@
 --
 -- `Called` and the definitions behind it have the right sides of the contracts. For each call a record or a type says what right is, and
 -- `BaseXCalls`, at the end, that every call comes out right, whatever can be lent (`Lendable`).
-use Rattle.basex.specs.Texts.{strings as stringsBytes}
-use mathlib.Core.Bool.{Bool, true, false}
-use mathlib.Core.List.{List, [], _∷_, _++_, flatten}
-use mathlib.Core.Logic.{_⊎_}
-use mathlib.Core.Path.{_≡_}
-use Prim.Native.Nat.{ℕ, zero, suc, _+_, _≤_, _<_}
-use lib.Dec.{eqb}
-use lib.ListN.{length, take, drop, getD}
-use Rattle.wire.specs.Bytes.{if, splice}
-use Rattle.wire.specs.Call.{inRoom, outputAfter}
-use Rattle.wire.specs.Fields.{Got}
-use Rattle.wire.specs.declared.Refusal.{Refusal}
-use Rattle.wire.specs.Refusals.{numberOf}
-use Rattle.basex_string.specs.Answers.{outputRead}
-use Rattle.basex_string.specs.Scan as strings
-use Rattle.basex_string.specs.Strings.{string}
-use Rattle.basex.specs.declared.Found.the-variants.{Known, Unknown}
-use Rattle.basex.specs.declared.Reply.{Reply}
-use Rattle.basex.specs.Kinds.{findOf, listed, isFull}
-use Rattle.basex.specs.Request as request
-use Rattle.basex.specs.Request.{Request}
-use Rattle.basex.specs.Response as response
+use Rattle.basex.specs.{Texts.strings as stringsBytes, declared.Found.the-variants.Known, declared.Found.the-variants.Unknown, declared.Reply.Reply}
+use Rattle.basex.specs.{Kinds.findOf, Kinds.listed, Kinds.isFull, Request.Request}
 use Rattle.basex.specs.Response.{Item, Response, itemBytes, ItemAllowed, Stands, errorOf}
-use Rattle.basex_request.specs.Calls.{padded}
+use mathlib.Core.{Bool.Bool, Bool.true, Bool.false, List.List, List.[], List._∷_, List._++_, List.flatten, Logic._⊎_, Path._≡_}
+use Prim.Native.Nat.{ℕ, zero, suc, _+_, _≤_, _<_}
+use lib.{Dec.eqb, ListN.length, ListN.take, ListN.drop, ListN.getD}
+use Rattle.wire.specs.{Bytes.if, Bytes.splice, Call.inRoom, Call.outputAfter, Fields.Got, declared.Refusal.Refusal, Refusals.numberOf}
+use Rattle.basex_string.specs.Strings.{string}
+use Rattle.basex_string.specs.Scan as strings
+use Rattle.basex.specs.Request as request
+use Rattle.basex.specs.Response as response
+use Rattle.basex_request.specs.{Calls.padded, Reading.kindOf, Reading.textsOf}
 use Rattle.basex_request.specs.Reading as requests
-use Rattle.basex_request.specs.Reading.{kindOf, textsOf}
 use Rattle.basex_request.specs.Writing as requesting
 use Rattle.basex_response.specs.Reading as responses
-use Rattle.basex_response.specs.Reading.{allTexts}
-use Rattle.basex_response.specs.Writing.{itemOf, fullOf, itemWritten, endWritten, endBytes}
+use Rattle.basex_response.specs.{Reading.allTexts, Writing.itemOf, Writing.fullOf, Writing.itemWritten, Writing.endWritten, Writing.endBytes}
 use Rattle.basex_laws.specs.Calls.{listedOf, uriOf, textOf}
 use Rattle.basex_laws.specs.Exactly.{Cut, partsOf, Means, Unwritten, MeansItem, ItemUnwritten, MeansEnd, EndUnwritten}
 use Rattle.basex_laws.specs.Moments.{Encoded, Begun, nextBytes, NextAllowed, BadId, BadItem}
-use Rattle.basex_c.specs.Codes.{Outcome, code, toldIn, storedIn}
-use Rattle.basex_c.specs.Told.{judging, decoding, requestRead, responseRead, itemRead, errorRead}
+use Rattle.basex_c.specs.Codes.{Outcome, countedOf, code, toldIn}
+use Rattle.basex_c.specs.Told.{bytesRead, judging, decoding, requestRead, responseRead, itemRead, errorRead}
 use Rattle.answer_c.specs.Codes.{countedCode}
 use Rattle.demands.specs.Answered.{Answered, REFUSED, answered}
 
@@ -52,27 +38,27 @@ pub record Called : Type 0 where
   pub told : List ℕ
 
 -- the right sides of the contracts, call by call: first of those that tell numbers ..
-abbrev pub telling : List ℕ → List ℕ → List ℕ → Outcome → Called
-telling out stored told o = record { answer = answered (code o); out = storedIn out stored o; told = toldIn told o }
+abbrev pub telling : List ℕ → ℕ → List ℕ → List ℕ → Outcome → Called
+telling out to bytes told o = record { answer = answered (code o); out = outputAfter (countedOf o) out to bytes; told = toldIn told o }
 
 abbrev pub stringAtCalled : List ℕ → ℕ → List ℕ → Called
-stringAtCalled s at told = telling [] [] told (judging s at (length told))
+stringAtCalled s at told = telling [] 0 [] told (judging s at (length told))
 
 abbrev pub decodeCalled : List ℕ → ℕ → List ℕ → ℕ → List ℕ → Called
-decodeCalled s at out to told = telling out (outputRead (λ s. s) out to (strings.reading (drop at s))) told (decoding s at (length out) to (length told))
+decodeCalled s at out to told = telling out to (bytesRead (λ s. s) (strings.reading (drop at s))) told (decoding s at (length out) to (length told))
 
 abbrev pub readRequestCalled : List ℕ → List ℕ → List ℕ → Called
-readRequestCalled s out told = telling out (outputRead requests.textBytes out 0 (requests.reading s)) told (requestRead s (length out) (length told))
+readRequestCalled s out told = telling out 0 (bytesRead requests.textBytes (requests.reading s)) told (requestRead s (length out) (length told))
 
 abbrev pub readResponseCalled : ℕ → List ℕ → List ℕ → List ℕ → Called
 readResponseCalled kind s out told =
-    telling out (outputRead responses.textBytes out 0 (responses.reading kind s)) told (responseRead kind s (length out) (length told))
+    telling out 0 (bytesRead responses.textBytes (responses.reading kind s)) told (responseRead kind s (length out) (length told))
 
 abbrev pub itemCalled : ℕ → List ℕ → ℕ → List ℕ → Called
-itemCalled kind s at told = telling [] [] told (itemRead kind s at (length told))
+itemCalled kind s at told = telling [] 0 [] told (itemRead kind s at (length told))
 
 abbrev pub errorCalled : ℕ → List ℕ → List ℕ → Called
-errorCalled kind numbers place = telling [] [] place (errorRead kind numbers (length place))
+errorCalled kind numbers place = telling [] 0 [] place (errorRead kind numbers (length place))
 
 -- .. and then of those that write
 abbrev pub writing : ℕ → List ℕ → Called
@@ -103,9 +89,9 @@ abbrev pub refusedWith : Refusal → List ℕ → List ℕ → Called
 refusedWith r out told = record { answer = Answered.refusal (numberOf r); out = out; told = told }
 
 -- a call that was lent an output and numbers came out right: refused where a refusal is due, or accepted
-pub data Right (Due : Refusal → Type 0) (Accepted : Called → Type 0) (out told : List ℕ) (c : Called) : Type 0 where
-  refused : (r : Refusal) → Due r → c ≡ refusedWith r out told → Right Due Accepted out told c
-  accepted : Accepted c → Right Due Accepted out told c
+pub data ComesOutRight (Due : Refusal → Type 0) (Accepted : Called → Type 0) (out told : List ℕ) (c : Called) : Type 0 where
+  refused : (r : Refusal) → Due r → c ≡ refusedWith r out told → ComesOutRight Due Accepted out told c
+  accepted : Accepted c → ComesOutRight Due Accepted out told c
 
 -- the refusal that is due for a call of reading: what reading refuses, and "with 10 last" where it reads well and what it reads has no place
 pub data Unread {A : Type 0} (x : Got A) (NoPlace : A → Type 0) : Refusal → Type 0 where
@@ -356,25 +342,25 @@ pub record BaseXCalls : Type 0 where
   -- kdr_basex_string_len is never refused: for texts below 2^62 bytes its answer is a count as any other
   pub string-len : (text : List ℕ) → length text < 4611686018427387904 → answered (length (string text)) ≡ Answered.count (length (string text))
   pub write-string : (out : List ℕ) → Lendable out → (at : ℕ) (text : List ℕ)
-      → Right (λ r. (r ≡ Refusal.NoRoom) × (length out < at + length (string text))) (Written (λ e. e ≡ string text) out at)
+      → ComesOutRight (λ r. (r ≡ Refusal.NoRoom) × (length out < at + length (string text))) (Written (λ e. e ≡ string text) out at)
       out [] (writeStringCalled out at text)
   pub string-at : (s : List ℕ) → Lendable s → (at : ℕ) (told : List ℕ)
-      → Right (Unread (strings.reading (drop at s)) (λ t. length told < 1)) (StringRead s at told)
+      → ComesOutRight (Unread (strings.reading (drop at s)) (λ t. length told < 1)) (StringRead s at told)
       [] told (stringAtCalled s at told)
   pub decode : (s : List ℕ) → Lendable s → (at : ℕ) (out : List ℕ) (to : ℕ) (told : List ℕ)
-      → Right (Unread (strings.reading (drop at s)) (λ t. NoPlace out (to + length t) told 1)) (Decoded s at out to told)
+      → ComesOutRight (Unread (strings.reading (drop at s)) (λ t. NoPlace out (to + length t) told 1)) (Decoded s at out to told)
       out told (decodeCalled s at out to told)
   pub read-request : (s : List ℕ) → Lendable s → (out told : List ℕ)
-      → Right (Unread (requests.reading s) (λ q. NoPlace out (length (flatten (textsOf q))) told 5)) (RequestRead s out told)
+      → ComesOutRight (Unread (requests.reading s) (λ q. NoPlace out (length (flatten (textsOf q))) told 5)) (RequestRead s out told)
       out told (readRequestCalled s out told)
   -- "its first byte, and KDR_BASEX_COMMAND for each COMMAND", and the texts in the request's order
   pub command-told : (text : List ℕ) → (kindOf (Request.command text) ≡ COMMAND) × (textsOf (Request.command text) ≡ text ∷ [])
   pub coded-told : (first : ℕ) (texts : List (List ℕ)) → (kindOf (Request.coded first texts) ≡ first) × (textsOf (Request.coded first texts) ≡ texts)
   pub write-request : (out : List ℕ) → Lendable out → (kind : ℕ) (a b c d : List ℕ)
-      → Right (Unwritten (length out) kind (a ∷ b ∷ c ∷ d ∷ [])) (Written (RequestBytes kind (a ∷ b ∷ c ∷ d ∷ [])) out 0)
+      → ComesOutRight (Unwritten (length out) kind (a ∷ b ∷ c ∷ d ∷ [])) (Written (RequestBytes kind (a ∷ b ∷ c ∷ d ∷ [])) out 0)
       out [] (writeRequestCalled out kind (a ∷ b ∷ c ∷ d ∷ []))
   pub read-response : (kind : ℕ) (s : List ℕ) → Lendable s → (out told : List ℕ)
-      → Right (Unread (responses.reading kind s) (λ r. NoPlace out (length (flatten (allTexts r))) told 6)) (ResponseRead kind s out told)
+      → ComesOutRight (Unread (responses.reading kind s) (λ r. NoPlace out (length (flatten (allTexts r))) told 6)) (ResponseRead kind s out told)
       out told (readResponseCalled kind s out told)
   -- a response that stands in front is the one that is read
   pub response-read : (kind : ℕ) (s : List ℕ) → Lendable s → (r : Response) (rest out told : List ℕ) → Stands kind r s rest
@@ -389,7 +375,7 @@ pub record BaseXCalls : Type 0 where
       → ¬ (readResponseCalled kind s out told .answer ≡ Answered.refusal 10)
   -- whatever numbers are given, kdr_basex_error answers by the status, and refuses exactly where it is due
   pub error : (kind : ℕ) (numbers place : List ℕ)
-      → Right (ErrorDue kind numbers (length place)) (ErrorAsked numbers place) [] place (errorCalled kind numbers place)
+      → ComesOutRight (ErrorDue kind numbers (length place)) (ErrorAsked numbers place) [] place (errorCalled kind numbers place)
   pub error-due : (kind : ℕ) (numbers place : List ℕ) (r : Refusal) → ErrorDue kind numbers (length place) r
       → errorCalled kind numbers place ≡ refusedWith r [] place
   -- by the numbers that kdr_basex_read_response told of a response, it tells where the error stands in the output that this left
@@ -398,7 +384,7 @@ pub record BaseXCalls : Type 0 where
       → ErrorTold (errorOf (h .reply) r) (readResponseCalled kind s out told .out) place (errorCalled kind (readResponseCalled kind s out told .told) place)
   -- an item, or the end of them; and a refusal exactly where it is due
   pub item : (kind : ℕ) (s : List ℕ) → Lendable s → (at : ℕ) (told : List ℕ)
-      → Right (ItemDue kind (drop at s) (length told)) (λ c. ItemRead kind s at told c ⊎ ItemsEnd kind s at told c)
+      → ComesOutRight (ItemDue kind (drop at s) (length told)) (λ c. ItemRead kind s at told c ⊎ ItemsEnd kind s at told c)
       [] told (itemCalled kind s at told)
   pub item-due : (kind : ℕ) (s : List ℕ) (at : ℕ) (told : List ℕ) (r : Refusal) → ItemDue kind (drop at s) (length told) r
       → itemCalled kind s at told ≡ refusedWith r [] told
@@ -430,8 +416,8 @@ pub record BaseXCalls : Type 0 where
       → ItemsEnd kind (streamed (length (r .items)) kind told s) 0 told (itemCalled kind (streamed (length (r .items)) kind told s) 0 told)
       × Stands kind (withItems r []) (streamed (length (r .items)) kind told s) rest
   pub write-item : (out : List ℕ) → Lendable out → (at kind id : ℕ) (uri text : List ℕ)
-      → Right (ItemUnwritten (length out) at kind id uri text) (Written (ItemBytes kind id uri text) out at)
+      → ComesOutRight (ItemUnwritten (length out) at kind id uri text) (Written (ItemBytes kind id uri text) out at)
       out [] (writeItemCalled out at kind id uri text)
   pub write-end : (out : List ℕ) → Lendable out → (at kind : ℕ) (first second : List ℕ) (status : ℕ) (error : List ℕ)
-      → Right (EndUnwritten (length out) at kind first second status error) (Written (EndBytes kind first second status error) out at)
+      → ComesOutRight (EndUnwritten (length out) at kind first second status error) (Written (EndBytes kind first second status error) out at)
       out [] (writeEndCalled out at kind first second status error)

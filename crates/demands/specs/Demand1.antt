@@ -9,49 +9,27 @@
 -- `bufferAfter`, and the functions of BaseX answer and leave what is named in the last record.
 --
 -- Here stands which refusal each of them gives, and when, by the published formats; and what a refused call leaves. When a step gives 9 is demand 3's.
-use mathlib.Core.Bool.{Bool, true, false}
-use mathlib.Core.List.{List, [], _∷_, _++_}
-use mathlib.Core.Logic.{_↔_, _⊎_}
-use mathlib.Core.Path.{_≡_}
+use mathlib.Core.{Bool.Bool, Bool.true, Bool.false, List.List, List.[], List._∷_, List._++_, Logic._↔_, Logic._⊎_, Path._≡_}
 use Prim.Native.Nat.{ℕ, _≤_}
 use lib.ListN.{length, drop}
-use Rattle.wire.specs.Bytes.{IsBytes}
-use Rattle.wire.specs.Call.{putAt, inRoom, outputAfter}
-use Rattle.wire.specs.declared.Refusal.{Refusal}
-use Rattle.wire.specs.Refusals.{numberOf}
-use Rattle.sedna.specs.declared.Side.{Side}
-use Rattle.sedna.specs.Encode.{bodyBytes, encode}
-use Rattle.sedna.specs.Message.{Body, Message}
-use Rattle.sedna_read.specs.declared.Reading.{Reading}
-use Rattle.sedna_read.specs.Reading.{Answer, reading}
-use Rattle.sedna_write.specs.Pairs.{sum, given, optionsMessage, optionsWritten}
-use Rattle.sedna_write.specs.Writing.{written}
-use Rattle.sedna_laws.specs.Due.{Due}
-use Rattle.sedna_laws.specs.Pieces.{piecesBytes, piecesOf}
-use Rattle.sedna_laws.specs.Unwritten.{Unwritten, UnwrittenLists}
-use Rattle.session.specs.declared.Session.{Session}
-use Rattle.session.specs.Step.{stepped}
+use Rattle.wire.specs.{Bytes.IsBytes, Call.inRoom, Call.outputAfter, declared.Refusal.Refusal, Refusals.numberOf, declared.Counted.Counted}
+use Rattle.sedna.specs.{declared.Side.Side, Encode.bodyBytes, Message.Body, Message.Message}
+use Rattle.sedna_read.specs.{declared.Reading.Reading, Reading.Answer, Reading.reading}
+use Rattle.sedna_write.specs.{Pairs.sum, Pairs.given, Pairs.optionsWritten, Writing.written}
+use Rattle.sedna_laws.specs.{Due.Due, Pieces.piecesBytes, Pieces.piecesOf, Unwritten.Unwritten, Unwritten.UnwrittenLists}
+use Rattle.session.specs.{declared.Session.Session, Step.stepped}
 use Rattle.session_lent.specs.Lent.{lentAnswer, lentSession}
-use Rattle.parts_laws.specs.PartDue.{PartRight}
-use Rattle.parts_laws.specs.ThroughBytes.{Uncut, Slices, part, partOutput}
-use Rattle.parts_join.specs.declared.Assembly.{Assembly}
-use Rattle.parts_join.specs.declared.Open.{Open}
-use Rattle.parts_join.specs.Answers.{Reply, reply}
-use Rattle.parts_join.specs.Joining.{joined}
-use Rattle.parts_join.specs.Offered.{Offered}
+use Rattle.parts_laws.specs.{PartDue.PartRight, ThroughBytes.Uncut, ThroughBytes.Slices, ThroughBytes.part, ThroughBytes.partOutput}
+use Rattle.parts_join.specs.{declared.Assembly.Assembly, declared.Open.Open, Answers.Reply, Answers.reply, Joining.joined, Offered.Offered}
 use Rattle.parts_join.specs.Refusals.{RefusalLeaves}
 use Rattle.basex_laws.specs.Moments.{StringMoments, RequestMoments, ItemMoments, ResponseMoments}
-use Rattle.wire.specs.declared.Counted.{Counted}
-use Rattle.basex_string.specs.declared.StringAt.{StringAt}
-use Rattle.basex_string.specs.Answers.{decoded, outputRead}
+use Rattle.basex_string.specs.{declared.StringAt.StringAt, Answers.decoded, Answers.outputRead, Strings.string}
 use Rattle.basex_string.specs.Scan as scan
-use Rattle.basex_string.specs.Strings.{string}
 use Rattle.basex_request.specs.declared.Requested.{Requested}
 use Rattle.basex_request.specs.Reading as requests
 use Rattle.basex_request.specs.Writing as requesting
-use Rattle.basex_response.specs.declared.Replied.{Replied}
+use Rattle.basex_response.specs.{declared.Replied.Replied, Writing.itemWritten, Writing.endWritten}
 use Rattle.basex_response.specs.Reading as responses
-use Rattle.basex_response.specs.Writing.{itemWritten, endWritten}
 
 -- one of those numbers
 abbrev pub OneOf : List ℕ → ℕ → Type 0
@@ -67,18 +45,15 @@ pub record Sedna : Type 0 where
   -- .. "as soon as the byte is there": a refusal other than 1 stands, whatever bytes follow
   pub refusal-stands : (side : Side) (s t : List ℕ) → IsBytes (s ++ t)
       → (r : Refusal) → ¬ (r ≡ Refusal.MoreBytes) → reading side s ≡ Answer.refused r → reading side (s ++ t) ≡ Answer.refused r
-  -- writing refuses with r exactly when `Unwritten` says so, and then leaves every byte of the lent output
+  -- writing refuses with r exactly when `Unwritten` says so
   pub writing-refused : (room : ℕ) (m : Message) (r : Refusal) → (written room m ≡ Counted.Refused r) ↔ Unwritten room m r
-  pub writing-leaves : (out : List ℕ) (m : Message) (r : Refusal) → written (length out) m ≡ Counted.Refused r
-      → outputAfter (written (length out) m) out 0 (encode m) ≡ out
   -- options, which the writer takes as three lists: they belong together exactly when there are as many lengths as ids, which add up to the values.
-  -- Then what is written is a message (`options-written` in demand 2). Else the call is refused, with 2 or 8 as `UnwrittenLists` says, and leaves the output
+  -- Then what is written is a message (`options-written` in demand 2). Else the call is refused, with 2 or 8 as `UnwrittenLists` says
   pub lists-together : (ids lengths values : List ℕ) → (given ids lengths values ≡ true) ↔ ((length ids ≡ length lengths) × (sum lengths ≡ length values))
   pub lists-refused : (room i : ℕ) (ids lengths values : List ℕ) → given ids lengths values ≡ false → (r : Refusal)
       → (optionsWritten room i ids lengths values ≡ Counted.Refused r) ↔ UnwrittenLists i r
-  pub lists-left : (out : List ℕ) (i : ℕ) (ids lengths values : List ℕ) → given ids lengths values ≡ false
-      → (r : Refusal) × (optionsWritten (length out) i ids lengths values ≡ Counted.Refused r)
-      × (outputAfter (optionsWritten (length out) i ids lengths values) out 0 (encode (optionsMessage i ids lengths values)) ≡ out)
+  pub lists-unwritten : (room i : ℕ) (ids lengths values : List ℕ) → given ids lengths values ≡ false
+      → (r : Refusal) × (optionsWritten room i ids lengths values ≡ Counted.Refused r)
   -- a refused step, of either form, leaves the session record as it was, and refuses with 1 to 9 only
   pub step-refused : (s : Session) (side : Side) (bytes : List ℕ) (r : Refusal) → stepped s side bytes .answer ≡ Reading.Refused r
       → (stepped s side bytes .session ≡ s) × (1 ≤ numberOf r) × (numberOf r ≤ 9)
@@ -102,26 +77,26 @@ pub record BaseX : Type 0 where
   pub request-moments : RequestMoments
   pub item-moments : (full : Bool) → ItemMoments full
   pub response-moments : (kind : ℕ) → ResponseMoments kind
-  -- a refused call leaves every lent byte, and refuses with no other number
+  -- a refused call refuses with no other number, and one of reading leaves every lent byte
   pub string-refused : (b : List ℕ) (at : ℕ) (out : List ℕ) (to : ℕ) (r : Refusal)
       → decoded (length b) (length out) to (scan.reading (drop at b)) ≡ StringAt.Refused r
       → OneOf (1 ∷ 10 ∷ 13 ∷ []) (numberOf r) × (outputRead (λ s. s) out to (scan.reading (drop at b)) ≡ out)
-  pub string-unwritten : (out : List ℕ) (at : ℕ) (text : List ℕ) (r : Refusal) → inRoom (length out) at (length (string text)) ≡ Counted.Refused r
-      → OneOf (10 ∷ []) (numberOf r) × (putAt out at (string text) ≡ out)
+  pub string-unwritten : (room at : ℕ) (text : List ℕ) (r : Refusal) → inRoom room at (length (string text)) ≡ Counted.Refused r → OneOf (10 ∷ []) (numberOf r)
   pub request-refused : (s out : List ℕ) (r : Refusal) → requests.requested (length s) (length out) (requests.reading s) ≡ Requested.Refused r
       → OneOf (1 ∷ 2 ∷ 10 ∷ 13 ∷ []) (numberOf r) × (outputRead requests.textBytes out 0 (requests.reading s) ≡ out)
-  pub request-unwritten : (out : List ℕ) (kind : ℕ) (texts : List (List ℕ)) (r : Refusal) → requesting.written (length out) kind texts ≡ Counted.Refused r
-      → OneOf (2 ∷ 8 ∷ 10 ∷ 11 ∷ []) (numberOf r) × (outputAfter (requesting.written (length out) kind texts) out 0 (requesting.bytesOf kind texts) ≡ out)
+  pub request-unwritten : (room kind : ℕ) (texts : List (List ℕ)) (r : Refusal) → requesting.written room kind texts ≡ Counted.Refused r
+      → OneOf (2 ∷ 8 ∷ 10 ∷ 11 ∷ []) (numberOf r)
   pub response-refused : (kind : ℕ) (s out : List ℕ) (r : Refusal) → responses.answered (length s) (length out) (responses.reading kind s) ≡ Replied.Refused r
       → OneOf (1 ∷ 2 ∷ 8 ∷ 10 ∷ 13 ∷ []) (numberOf r) × (outputRead responses.textBytes out 0 (responses.reading kind s) ≡ out)
-  pub item-unwritten : (out : List ℕ) (at kind id : ℕ) (uri text bytes : List ℕ) (r : Refusal)
-      → itemWritten (length out) at kind id uri text ≡ Counted.Refused r
-      → OneOf (2 ∷ 8 ∷ 10 ∷ []) (numberOf r) × (outputAfter (itemWritten (length out) at kind id uri text) out at bytes ≡ out)
-  pub end-unwritten : (out : List ℕ) (at kind : ℕ) (first second : List ℕ) (status : ℕ) (error bytes : List ℕ) (r : Refusal)
-      → endWritten (length out) at kind first second status error ≡ Counted.Refused r
-      → OneOf (2 ∷ 8 ∷ 10 ∷ []) (numberOf r) × (outputAfter (endWritten (length out) at kind first second status error) out at bytes ≡ out)
+  pub item-unwritten : (room at kind id : ℕ) (uri text : List ℕ) (r : Refusal) → itemWritten room at kind id uri text ≡ Counted.Refused r
+      → OneOf (2 ∷ 8 ∷ 10 ∷ []) (numberOf r)
+  pub end-unwritten : (room at kind : ℕ) (first second : List ℕ) (status : ℕ) (error : List ℕ) (r : Refusal)
+      → endWritten room at kind first second status error ≡ Counted.Refused r → OneOf (2 ∷ 8 ∷ 10 ∷ []) (numberOf r)
 
 pub record Demand1 : Type 0 where
   pub sedna : Sedna
   pub parts : Parts
   pub basex : BaseX
+  -- what any call of writing leaves is `outputAfter` of its answer (`Writes`): refused, it leaves every byte
+  pub writing-leaves : (answer : Counted) (r : Refusal) → answer ≡ Counted.Refused r → (out : List ℕ) (at : ℕ) (bytes : List ℕ)
+      → outputAfter answer out at bytes ≡ out

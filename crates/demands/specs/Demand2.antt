@@ -3,68 +3,37 @@
 --
 -- Of each protocol, and of cutting and joining, a record says so; `Demand2`, at the end, is all three. Published formats (`Published`, `encode`, `string`)
 -- and cuts know no reader and no joiner.
-use mathlib.Core.Bool.{true}
-use mathlib.Core.List.{List, [], _∷_, _++_, map, flatten}
-use mathlib.Core.Logic.{_↔_}
-use mathlib.Core.Option.{some}
-use mathlib.Core.Path.{_≡_}
+use mathlib.Core.{Bool.true, List.List, List.[], List._∷_, List._++_, List.map, List.flatten, Logic._↔_, Option.some, Path._≡_}
 use Prim.Native.Nat.{ℕ, suc, _+_, _-_, _≤_, _<_}
-use lib.Dec.{T, leb}
-use lib.ListN.{length, take, drop, getElem?}
-use Rattle.wire.specs.Bytes.{IsBytes, if, splice}
-use Rattle.wire.specs.Call.{outputAfter}
-use Rattle.wire.specs.Every.{Every}
-use Rattle.wire.specs.Fields.{Got}
-use Rattle.wire.specs.Call.{outputAfter}
-use Rattle.wire.specs.declared.Refusal.the-variants.{NoEncoding}
-use Rattle.sedna.specs.declared.Side.{Side}
-use Rattle.sedna.specs.declared.Side.the-variants.{Client, Server}
-use Rattle.sedna.specs.declared.Entry.{Entry}
-use Rattle.sedna.specs.declared.Shape.the-variants.{Options}
-use Rattle.sedna.specs.Allowed.{formatAllowed, allowed}
-use Rattle.sedna.specs.Encode.{bodyBytes, encode}
-use Rattle.sedna.specs.Message.{Url, Pair, Body, Message, message}
-use Rattle.sedna.specs.Names.{LongQueryEnd}
-use Rattle.sedna.specs.Published.{Published, Front, Writable}
-use Rattle.sedna.specs.Table.{InTable}
-use Rattle.sedna_read.specs.declared.Places.{Places}
-use Rattle.sedna_read.specs.declared.Reading.{Reading}
-use Rattle.sedna_read.specs.Meaning.{meaning, optionIn}
-use Rattle.sedna_read.specs.Places.{place, located, optionAt}
+use lib.{Dec.T, Dec.leb, ListN.length, ListN.take, ListN.drop, ListN.getElem?}
+use Rattle.wire.specs.{Bytes.IsBytes, Bytes.if, Bytes.splice, Call.outputAfter, Every.Every, Fields.Got}
+use Rattle.wire.specs.{declared.Refusal.the-variants.NoEncoding, declared.Counted.Counted}
+use Rattle.sedna.specs.{declared.Side.Side, declared.Side.the-variants.Client, declared.Side.the-variants.Server, declared.Entry.Entry}
+use Rattle.sedna.specs.{Allowed.formatAllowed, Allowed.allowed, Encode.bodyBytes, Encode.encode}
+use Rattle.sedna.specs.{Message.Url, Message.Pair, Message.Body, Message.Message, Message.message, Names.LongQueryEnd}
+use Rattle.sedna.specs.{Published.Published, Published.Front, Published.Writable, Table.InTable}
+use Rattle.sedna_read.specs.{declared.Places.Places, declared.Reading.Reading, Meaning.meaning, Meaning.optionIn, Places.place, Places.located, Places.optionAt}
 use Rattle.sedna_read.specs.Reading.{Answer, reading}
-use Rattle.wire.specs.declared.Counted.{Counted}
-use Rattle.sedna_write.specs.Pairs.{given, pairsOf, optionsWritten}
-use Rattle.sedna_write.specs.Writing.{written}
+use Rattle.sedna_write.specs.{Pairs.given, Pairs.pairsOf, Pairs.optionsWritten, Writing.written}
 use Rattle.sedna_laws.specs.Pieces.{Bounded}
 use Rattle.grammar.specs.Grammar as grammar
-use Rattle.grammar.specs.Layout.{flatRequest, flatItem}
-use Rattle.grammar.specs.Sent.{Version, from, upTo}
+use Rattle.grammar.specs.{Layout.flatRequest, Layout.flatItem, Sent.Version, Sent.from, Sent.upTo}
 use Rattle.parts_cut.specs.Cut.{startRoom, cutStatement, cutItem, cutTypedItem}
 use Rattle.parts_cut.specs.Part.{statementParts, itemPartsFrom, itemCount, urlParts, partWritten}
-use Rattle.parts_join.specs.declared.Open.{Open}
-use Rattle.parts_join.specs.Cuttings.{Cutting, Ending, ending, messages, AllAllowed, Joins}
+use Rattle.parts_join.specs.{declared.Open.Open, Cuttings.Cutting, Cuttings.Ending, Cuttings.ending, Cuttings.messages, Cuttings.AllAllowed, Cuttings.Joins}
 use Rattle.parts_handing.specs.Handing.{HandsOver}
-use Rattle.parts_laws.specs.Filled.{Filled}
-use Rattle.parts_laws.specs.Rejoined.{UrlFits, Rejoined}
+use Rattle.parts_laws.specs.{Filled.Filled, Rejoined.UrlFits, Rejoined.Rejoined}
 use Rattle.parts_laws.specs.ThroughBytes.{Uncut, Sendable, Roomy, Returned}
 use Rattle.basex_string.specs.Scan as strings
-use Rattle.basex_string.specs.Answers.{outputRead}
-use Rattle.basex_string.specs.Strings.{string}
-use Rattle.basex.specs.declared.Found.the-variants.{Known}
-use Rattle.basex.specs.declared.Reply.{Reply}
-use Rattle.basex.specs.Kinds.{findOf}
+use Rattle.basex_string.specs.{Answers.outputRead, Strings.string}
+use Rattle.basex.specs.{declared.Found.the-variants.Known, declared.Reply.Reply, Kinds.findOf, Request.Request, Response.Response, Response.Stands}
 use Rattle.basex.specs.Request as request
-use Rattle.basex.specs.Request.{Request}
 use Rattle.basex.specs.Response as response
-use Rattle.basex.specs.Response.{Response, Stands}
-use Rattle.basex_request.specs.declared.Requested.the-variants.{Read}
-use Rattle.basex_request.specs.Calls.{padded, cut}
+use Rattle.basex_request.specs.{declared.Requested.the-variants.Read, Calls.padded, Calls.cut, Reading.kindOf, Reading.textsOf, Reading.requested}
 use Rattle.basex_request.specs.Reading as requests
-use Rattle.basex_request.specs.Reading.{kindOf, textsOf, requested}
 use Rattle.basex_request.specs.Writing as requesting
 use Rattle.basex_response.specs.Reading as responses
-use Rattle.basex_response.specs.Reading.{allTexts}
-use Rattle.basex_response.specs.Writing.{fullOf}
+use Rattle.basex_response.specs.{Reading.allTexts, Writing.fullOf}
 use Rattle.basex_laws.specs.Calls.{listedOf, handed, responded}
 use Rattle.basex_laws.specs.Exactly.{WrittenExactly, ToldExactly, InputSuffices, ErrorsExactly}
 

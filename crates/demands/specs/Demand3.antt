@@ -4,32 +4,14 @@
 --
 -- First what is claimed, of any session: by the grammar, by what is offered, and by what is answered; no machine is named there. Then the session that it
 -- holds of, and `Demand3`.
-use mathlib.Core.Bool.{Bool, true}
-use mathlib.Core.List.{List, [], _∷_, _++_}
-use mathlib.Core.Logic.{_↔_}
-use mathlib.Core.Option.{Option, some}
-use mathlib.Core.Path.{_≡_}
+use mathlib.Core.{Bool.Bool, Bool.true, List.List, List.[], List._∷_, List._++_, Logic._↔_, Option.Option, Option.some, Path._≡_}
 use Prim.Native.Nat.{ℕ, _<_}
-use lib.Dec.{T}
-use lib.ListN.{length}
-use Rattle.wire.specs.Bytes.{IsBytes}
-use Rattle.wire.specs.Calls.{Done, recordAfter, keptAfter, AllRight}
-use Rattle.wire.specs.Every.{Every}
-use Rattle.wire.specs.declared.Refusal.{Refusal}
-use Rattle.wire.specs.Refusals.{numberOf}
-use Rattle.sedna.specs.declared.Side.{Side}
-use Rattle.sedna.specs.Message.{Body, Message, message}
-use Rattle.sedna.specs.Names.{ErrorResponse}
-use Rattle.sedna.specs.Published.{Published}
-use Rattle.sedna_read.specs.Meaning.{meaning}
-use Rattle.sedna_read.specs.Reading.{Answer, reading}
-use Rattle.grammar.specs.Conversation.{Whole, Begins}
-use Rattle.grammar.specs.Grammar.{Conversation}
-use Rattle.grammar.specs.Layout.{flat}
-use Rattle.grammar.specs.Sent.{canSend}
-use Rattle.grammar.specs.Turn.{HasTurn}
-use Rattle.session.specs.declared.Session.{Session}
-use Rattle.session.specs.Step.{freshSession, stepped, closedOf, turnOf, sideOf}
+use lib.{Dec.T, ListN.length}
+use Rattle.wire.specs.{Bytes.IsBytes, Calls.Done, Calls.recordAfter, Calls.keptAfter, Calls.AllRight, Every.Every, declared.Refusal.Refusal, Refusals.numberOf}
+use Rattle.sedna.specs.{declared.Side.Side, Message.Body, Message.Message, Message.message, Names.ErrorResponse, Published.Published}
+use Rattle.sedna_read.specs.{Meaning.meaning, Reading.Answer, Reading.reading}
+use Rattle.grammar.specs.{Conversation.Whole, Conversation.Begins, Grammar.Conversation, Layout.flat, Sent.canSend, Turn.HasTurn}
+use Rattle.session.specs.{declared.Session.Session, Step.freshSession, Step.stepped, Step.closedOf, Step.turnOf, Step.sideOf}
 use Rattle.session_lent.specs.Lent.{lentAnswer, lentSession}
 
 -- "Besides the form by value, a step updates the session record where the gateway keeps it"
@@ -69,7 +51,7 @@ module _ (Record : Type 0) (does : Record → Offer → Done Record Answer) wher
     -- "The accepted messages, in their order, begin a conversation of document 01's grammar": so every list accepted so far can be finished
     pub begun : Begins (acceptedFrom fresh offers)
     -- what each offer got
-    pub judged : AllRight does accepting (λ before s o done. RightAnswer before o (done .answer)) [] fresh offers
+    pub right : AllRight does accepting (λ before s o done. RightAnswer before o (done .answer)) [] fresh offers
     -- "The session reports itself closed exactly when the accepted ones are a whole conversation."
     pub whole : (closed (recordAfter does fresh offers) ≡ true) ↔ Whole (acceptedFrom fresh offers)
     -- "Messages alternate by turn": the session tells who has it then, if any side has

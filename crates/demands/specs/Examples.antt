@@ -1,16 +1,10 @@
 -- Document 01, "Worked examples (P: proved, as one table)".
-use mathlib.Core.List.{List, [], _∷_, map}
-use mathlib.Core.Path.{_≡_}
+use mathlib.Core.{List.List, List.[], List._∷_, List.map, Path._≡_}
 use Prim.Native.Nat.{ℕ, _-_}
 use lib.ListN.{length, take}
-use Rattle.wire.specs.Call.{putAt, inRoom}
-use Rattle.wire.specs.Fields.{Got}
-use Rattle.wire.specs.Refusals.{numberOf}
-use Rattle.sedna.specs.declared.Side.{Side}
-use Rattle.sedna.specs.Message.{Body, Message}
-use Rattle.sedna.specs.Names.{StartUp, Execute}
+use Rattle.wire.specs.{Call.putAt, Call.inRoom, Fields.Got, Refusals.numberOf, declared.Counted.Counted}
+use Rattle.sedna.specs.{declared.Side.Side, Message.Body, Message.Message, Names.StartUp, Names.Execute}
 use Rattle.sedna_read.specs.Reading.{Answer, reading}
-use Rattle.wire.specs.declared.Counted.{Counted}
 use Rattle.basex_string.specs.Scan as strings
 use Rattle.basex_string.specs.Strings.{string}
 

@@ -1,70 +1,46 @@
 -- Demand 3, drawn for the calls by which programs in C and Rust reach the session: `kdr_fresh`, `kdr_step`, `kdr_closed` and `kdr_turn`, over any list of
 -- calls on the bytes that the caller keeps. What they answer and tell is turned back into what it means by the header's names.
-use mathlib.Core.List.{List, [], _∷_, _++_}
-use mathlib.Core.Logic.{_↔_}
-use mathlib.Core.Option.{Option}
-use mathlib.Core.Path.{_≡_}
+use mathlib.Core.{List.List, List.[], List._∷_, List._++_, Logic._↔_, Option.Option, Path._≡_}
 use Prim.Native.Nat.{ℕ, _≤_, _<_}
 use lib.ListN.{length, drop}
-use Rattle.wire.specs.Bytes.{IsBytes}
-use Rattle.wire.specs.Calls.{Done, recordAfter, keptAfter, AllRight}
-use Rattle.wire.specs.declared.Refusal.{Refusal}
-use Rattle.wire.specs.Refusals.{numberOf}
-use Rattle.sedna.specs.declared.Side.{Side}
-use Rattle.sedna.specs.Message.{Message}
-use Rattle.sedna_read.specs.Reading.{Answer, reading}
-use Rattle.grammar.specs.Conversation.{Whole, Begins}
-use Rattle.grammar.specs.Turn.{HasTurn}
+use Rattle.wire.specs.{Calls.Done, Calls.recordAfter, Calls.keptAfter, Calls.AllRight, declared.Refusal.Refusal, Refusals.numberOf}
+use Rattle.sedna.specs.{declared.Side.Side, Message.Message}
+use Rattle.sedna_read.specs.Reading.{Answer}
+use Rattle.grammar.specs.{Conversation.Whole, Conversation.Begins, Turn.HasTurn}
 use Rattle.sedna_c.specs.Sessions.{freshCode, freshLeft, stepCode, stepLeft, stepFields, closedCode, turnCode}
-use Rattle.demands.specs.Answered.{Answered, answered}
-use Rattle.demands.specs.Header.{SideOf, offeredBy, TurnOf, FIELDS, SESSION-BYTES, Tells}
+use Rattle.demands.specs.Answered.{Answered, answered, Call, Told, unchanged}
+use Rattle.demands.specs.Header.{Nobody, ReadsAs, offeredBy, TurnOf, FIELDS, SESSION-BYTES, Tells}
 
--- a call of `kdr_step`: a side's number, bytes, and the numbers that are lent for the fields
-pub record Call : Type 0 where
-  pub side : ℕ
-  pub bytes : List ℕ
-  pub are-bytes : IsBytes bytes
-  pub fields : List ℕ
-
--- what it answers and tells; the record is the session's bytes. Both are the right sides of its contract
-pub record Told : Type 0 where
-  pub answer : Answered
-  pub fields : List ℕ
-
+-- a call of `kdr_step` on the session's bytes, by the right sides of its contract
 abbrev pub called : List ℕ → Call → Done (List ℕ) Told
 called d c = record {
-  record-after = stepLeft d (c .side) (c .bytes) (length (c .fields));
+  record-after = stepLeft d (c .side) (c .bytes) (length (c .numbers));
   answer = record {
-    answer = answered (stepCode d (c .side) (c .bytes) (length (c .fields)));
-    fields = stepFields d (c .side) (c .bytes) (c .fields);
+    answer = answered (stepCode d (c .side) (c .bytes) (length (c .numbers)));
+    numbers = stepFields d (c .side) (c .bytes) (c .numbers);
   };
 }
-
--- a refusal's number alone, and everything as it was
-abbrev pub unchanged : ℕ → List ℕ → Call → Done (List ℕ) Told
-unchanged k d c = record { record-after = d; answer = record { answer = Answered.refusal k; fields = c .fields } }
 
 -- the number of the refusal that a call gets, given the messages accepted before it
 pub data Why (before : List Message) (c : Call) : ℕ → Type 0 where
   -- a side that is none
-  nobody : ((side : Side) → ¬ SideOf (c .side) side) → Why before c 8
+  nobody : Nobody (c .side) → Why before c 8
   -- "A message that 01's order of reading refuses ahead of its 9 got that refusal."
-  unread : (side : Side) (r : Refusal) → SideOf (c .side) side → reading side (c .bytes) ≡ Answer.refused r → Why before c (numberOf r)
+  unread : (r : Refusal) → ReadsAs (c .side) (c .bytes) (Answer.refused r) → Why before c (numberOf r)
   -- "… and then with 9, exactly when no conversation begins with those accepted before it followed by it."
-  out-of-order : (side : Side) (m : Message) (n : ℕ) → SideOf (c .side) side → reading side (c .bytes) ≡ Answer.accepted m n
-      → ¬ Begins (before ++ (m ∷ [])) → Why before c 9
+  out-of-order : (m : Message) (n : ℕ) → ReadsAs (c .side) (c .bytes) (Answer.accepted m n) → ¬ Begins (before ++ (m ∷ [])) → Why before c 9
   -- a message that would be accepted, and fewer than ten numbers for it
-  no-room : (side : Side) (m : Message) (n : ℕ) → SideOf (c .side) side → reading side (c .bytes) ≡ Answer.accepted m n
-      → Begins (before ++ (m ∷ [])) → length (c .fields) < FIELDS → Why before c 10
+  no-room : (m : Message) (n : ℕ) → ReadsAs (c .side) (c .bytes) (Answer.accepted m n) → Begins (before ++ (m ∷ []))
+      → length (c .numbers) < FIELDS → Why before c 10
 
 -- a call on the session's bytes d came out right
 pub data RightCall (before : List Message) (d : List ℕ) (c : Call) : Done (List ℕ) Told → Type 0 where
   refused : (k : ℕ) → Why before c k → RightCall before d c (unchanged k d c)
   -- the number of bytes read; the ten numbers mean the message; the numbers behind them stay, and the bytes behind the session's
-  accepted : (side : Side) (m : Message) (n : ℕ) (after fields : List ℕ) → SideOf (c .side) side → reading side (c .bytes) ≡ Answer.accepted m n
-      → Begins (before ++ (m ∷ [])) → FIELDS ≤ length (c .fields)
-      → Tells (c .bytes) fields m → drop FIELDS fields ≡ drop FIELDS (c .fields) → drop SESSION-BYTES after ≡ drop SESSION-BYTES d
-      → RightCall before d c (record { record-after = after; answer = record { answer = Answered.count n; fields = fields } })
+  accepted : (m : Message) (n : ℕ) (after t : List ℕ) → ReadsAs (c .side) (c .bytes) (Answer.accepted m n) → Begins (before ++ (m ∷ []))
+      → FIELDS ≤ length (c .numbers)
+      → Tells (c .bytes) t m → drop FIELDS t ≡ drop FIELDS (c .numbers) → drop SESSION-BYTES after ≡ drop SESSION-BYTES d
+      → RightCall before d c (record { record-after = after; answer = record { answer = Answered.count n; numbers = t } })
 
 -- the accepted messages, in their order: a call that answers a count accepted what it was offered
 abbrev pub acceptingBy : List Message → Call → Answered → List Message
@@ -82,23 +58,20 @@ pub record Closes (before : List Message) (d : List ℕ) : Type 0 where
 -- `kdr_turn` answers the side that has the turn behind the accepted messages
 pub record Turns (before : List Message) (d : List ℕ) : Type 0 where
   pub turn : Option Side
-  pub told : TurnOf (turnCode d) turn
+  pub names : TurnOf (turnCode d) turn
   pub has : HasTurn before turn
 
--- the messages accepted, and the session's bytes, after a list of calls from d on
+-- the messages accepted in a list of calls from d on
 abbrev pub acceptedFrom : List ℕ → List Call → List Message
 acceptedFrom = keptAfter called accepting []
-
-abbrev pub leftFrom : List ℕ → List Call → List ℕ
-leftFrom = recordAfter called
 
 -- what holds after it
 pub record After (d : List ℕ) (calls : List Call) : Type 0 where
   -- each call came out right
   pub right : AllRight called accepting RightCall [] d calls
   pub begun : Begins (acceptedFrom d calls)
-  pub closes : Closes (acceptedFrom d calls) (leftFrom d calls)
-  pub turns : Turns (acceptedFrom d calls) (leftFrom d calls)
+  pub closes : Closes (acceptedFrom d calls) (recordAfter called d calls)
+  pub turns : Turns (acceptedFrom d calls) (recordAfter called d calls)
 
 pub record Demand3Exports : Type 0 where
   -- from what `kdr_fresh` leaves in two bytes or more

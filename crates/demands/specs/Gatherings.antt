@@ -1,11 +1,7 @@
 -- What the numbers mean that `kdr_open` and `kdr_join` keep and tell: the names of bindings/c/keddorimp.h, as in Header.antt.
-use mathlib.Core.Bool.{Bool, true, false}
-use mathlib.Core.List.{List, [], _∷_}
-use mathlib.Core.Path.{_≡_}
+use mathlib.Core.{Bool.Bool, Bool.true, Bool.false, List.List, List.[], List._∷_, Path._≡_}
 use Prim.Native.Nat.{ℕ, _<_}
-use Rattle.parts_join.specs.declared.Assembly.{Assembly}
-use Rattle.parts_join.specs.declared.Open.{Open}
-use Rattle.parts_join.specs.Answers.{Reply}
+use Rattle.parts_join.specs.{declared.Assembly.Assembly, declared.Open.Open, Answers.Reply}
 use Rattle.demands.specs.Header.{_at_, Zero}
 
 -- enum kdr_gathering

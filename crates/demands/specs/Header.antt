@@ -1,17 +1,11 @@
 -- What the numbers mean that the exported Sedna calls take and tell: the names and the table of bindings/c/keddorimp.h. A name is the header's without its
 -- KDR_, with - for _.
-use mathlib.Core.List.{List, [], _∷_}
-use mathlib.Core.Option.{Option, none, some}
-use mathlib.Core.Path.{_≡_}
+use mathlib.Core.{List.List, List.[], List._∷_, Option.Option, Option.none, Option.some, Path._≡_}
 use Prim.Native.Nat.{ℕ, zero, suc, _+_, _≤_}
-use lib.Dec.{eqb}
-use lib.ListN.{length, getD, take, drop}
-use Rattle.wire.specs.Bytes.{if}
-use Rattle.wire.specs.Every.{Every}
-use Rattle.sedna.specs.declared.Side.{Side}
-use Rattle.sedna.specs.Message.{Url, Pair, Body, Message}
-use Rattle.sedna_read.specs.Places.{optionAt}
-use Rattle.sedna_read.specs.Reading.{Answer, reading}
+use lib.{Dec.eqb, ListN.length, ListN.getD, ListN.take, ListN.drop}
+use Rattle.wire.specs.{Bytes.if, Every.Every}
+use Rattle.sedna.specs.{declared.Side.Side, Message.Url, Message.Pair, Message.Body, Message.Message}
+use Rattle.sedna_read.specs.{Places.optionAt, Reading.Answer, Reading.reading}
 use Rattle.sedna_c.specs.Codes.{optionLeft}
 
 infixl 90 _at_
@@ -41,14 +35,24 @@ pub data SideOf : ℕ → Side → Type 0 where
   client : SideOf 1 Side.Client
   server : SideOf 2 Side.Server
 
--- the message in front, where reading accepts one
-abbrev pub inFront : Answer → List Message
-inFront (Answer.refused r) = []
-inFront (Answer.accepted m n) = m ∷ []
+-- no side has that number
+abbrev pub Nobody : ℕ → Type 0
+Nobody number = (side : Side) → ¬ SideOf number side
+
+-- bytes from the side of that number read as that
+pub record ReadsAs (number : ℕ) (bytes : List ℕ) (a : Answer) : Type 0 where
+  pub side : Side
+  pub is : SideOf number side
+  pub read : reading side bytes ≡ a
+
+-- the message that was read, if one was
+abbrev pub messageRead : Answer → List Message
+messageRead (Answer.refused r) = []
+messageRead (Answer.accepted m n) = m ∷ []
 
 -- what a side's number and bytes offer
 abbrev pub offeredBy : ℕ → List ℕ → List Message
-offeredBy side bytes = if (eqb side 1) (inFront (reading Side.Client bytes)) (if (eqb side 2) (inFront (reading Side.Server bytes)) [])
+offeredBy side bytes = if (eqb side 1) (messageRead (reading Side.Client bytes)) (if (eqb side 2) (messageRead (reading Side.Server bytes)) [])
 
 -- the same with KDR_NOBODY
 pub data TurnOf : ℕ → Option Side → Type 0 where

@@ -1,51 +1,32 @@
--- What the library guarantees: README's list as one record, each field one line. The demands behind it say all of it; docs/NOTATION.md tells how to read it.
-use mathlib.Core.List.{List}
-use mathlib.Core.Logic.{_↔_}
-use mathlib.Core.Path.{_≡_}
-use Prim.Native.Nat.{ℕ}
-use lib.ListN.{length}
-use Rattle.wire.specs.Bytes.{IsBytes}
-use Rattle.wire.specs.Call.{outputAfter}
-use Rattle.wire.specs.Fields.{Got}
-use Rattle.wire.specs.declared.Counted.the-variants.{Count}
-use Rattle.wire.specs.declared.Refusal.{Refusal}
-use Rattle.sedna.specs.declared.Side.{Side}
-use Rattle.sedna.specs.Encode.{encode}
-use Rattle.sedna.specs.Message.{Message}
-use Rattle.sedna.specs.Published.{Published, Front}
-use Rattle.sedna_read.specs.Reading.{Answer, reading}
-use Rattle.sedna_write.specs.Writing.{written}
-use Rattle.sedna_laws.specs.Due.{Due}
-use Rattle.grammar.specs.Grammar.{Conversation}
-use Rattle.grammar.specs.Layout.{flat}
-use Rattle.session.specs.declared.Session.{Session}
-use Rattle.session.specs.Step.{freshSession, closedOf}
-use Rattle.parts_join.specs.declared.Open.{Open}
-use Rattle.parts_join.specs.Offered.{Offered}
-use Rattle.parts_laws.specs.ThroughBytes.{Uncut, Sendable, Roomy, Returned}
-use Rattle.basex.specs.Response.{Response, Stands}
-use Rattle.basex_response.specs.Reading as responses
-use Rattle.demands.specs.Demand1.{Demand1}
-use Rattle.demands.specs.Demand2.{Demand2}
-use Rattle.demands.specs.Demand3.{Demand3, Offer, After, step, onTurn}
-use Rattle.demands.specs.Request1.{Request1}
+-- What the library guarantees: README's list as one record. Each field cites what says it; the names in brackets are the fields of that to read first.
+-- docs/NOTATION.md tells how to read them.
+use Rattle.demands.specs.Demand1 as demand-1
+use Rattle.demands.specs.Demand2 as demand-2
+use Rattle.demands.specs.{BaseXCalls.BaseXCalls, Demand3.Demand3, Exports.Demand3Exports, JoinCalls.JoinCalls, PartsCalls.PartsCalls}
+use Rattle.demands.specs.{Request1.Request1, SednaCalls.SednaCalls, Transcript.Demand3Transcript}
 
 pub record Guarantees : Type 1 where
-  -- 1. Reading accepts exactly what is published and stands in front, a Sedna message and, knowing the request, a BaseX response
-  pub reads : (side : Side) (s : List ℕ) → IsBytes s → (m : Message) (n : ℕ) → (reading side s ≡ Answer.accepted m n) ↔ (Published side m × Front s m n)
-  pub responds : (kind : ℕ) (s : List ℕ) (r : Response) (rest : List ℕ) → (responses.reading kind s ≡ Got.got r rest) ↔ Stands kind r s rest
-  -- 2. What was written reads as the same message
-  pub writes : (side : Side) (out : List ℕ) (m : Message) (n : ℕ) → Published side m
-      → written (length out) m ≡ Count n → reading side (outputAfter (Count n) out 0 (encode m)) ≡ Answer.accepted m n
+  -- 1, 2. Reading accepts exactly what is published and stands in front (`reading-exact`). What was written reads as the same message (`read-written`), and
+  -- what was read is written as the same bytes (`write-read`)
+  pub messages : demand-2.Sedna
+  -- .. and so with BaseX's strings, requests and responses (`string-exact`, `request-exact`, `response-exact`)
+  pub basex : demand-2.BaseX
   -- 3, 4. Whatever is offered to a session: what is accepted begins a conversation, 9 exactly when none goes on so, closed exactly when whole
-  pub session : (offers : List Offer) → After Session step freshSession closedOf onTurn offers
-  pub one-layout : (c d : Conversation) → flat c ≡ flat d → c ≡ d
-  -- 5. Whatever messages are joined: 8, 9, 12 or the text, by the cuttings alone; and the library's own cut, written, read back and joined, is the text
-  pub joins : (what : Open) (buffer : List ℕ) (messages : List Message) → Offered what buffer messages
-  pub returns : (u : Uncut) → Sendable u → (outs : ℕ → List ℕ) → Roomy u outs → (buffer : List ℕ) → Returned u outs buffer
-  -- 6. Typed values: accepted, 15 and 16 exactly when; instants as points in time
+  -- (`after-any-list`). One layout only (`one-layout`)
+  pub session : Demand3
+  -- 5. Whatever messages are joined: 8, 9, 12 or the text, by the cuttings alone (`offered`) ..
+  pub joining : demand-1.Parts
+  -- .. and the library's own cut, written, read back and joined, is the text (`returned`)
+  pub cutting : demand-2.Parts
+  -- 6. Typed values: accepted, 15 and 16 exactly when (`exactly`); instants as points in time (`in-order`, `incident`)
   pub values : Request1
-  -- 7. A refusal has the number that is listed, at the moment that is listed and never otherwise, and leaves every lent byte
-  pub refuses : (side : Side) (s : List ℕ) → IsBytes s → (r : Refusal) → (reading side s ≡ Answer.refused r) ↔ Due side s r
-  -- all of it
-  pub demands : Demand1 × Demand2 × Demand3
+  -- 7. A refusal has the number that is listed, at the moment that is listed and never otherwise (`reading-refused`, `writing-refused`, `..-moments`), and
+  -- leaves the record and every lent byte
+  pub refusals : demand-1.Demand1
+  -- The same of what programs in C and Rust call, whatever they pass, one call or any list of them; and of what the transcript program prints
+  pub codec-calls : SednaCalls
+  pub basex-calls : BaseXCalls
+  pub step-calls : Demand3Exports
+  pub part-calls : PartsCalls
+  pub join-calls : JoinCalls
+  pub transcript : Demand3Transcript

@@ -1,34 +1,22 @@
 -- What the calls of cutting and joining answer and leave, turned back into what it means by the header's names. What `answered` is applied to, and what
 -- is named as left, are the right sides of the contracts.
-use mathlib.Core.List.{List}
-use mathlib.Core.Logic.{_⊎_}
-use mathlib.Core.Path.{_≡_}
+use mathlib.Core.{List.List, Logic._⊎_, Path._≡_}
 use Prim.Native.Nat.{ℕ, _≤_, _<_}
-use lib.Dec.{eqb, leb}
-use lib.ListN.{length, drop, set}
-use Rattle.wire.specs.Bytes.{IsBytes, if}
-use Rattle.wire.specs.Call.{outputAfter}
-use Rattle.wire.specs.declared.Refusal.{Refusal}
-use Rattle.wire.specs.Refusals.{numberOf}
-use Rattle.sedna.specs.declared.Side.{Side}
-use Rattle.sedna.specs.Message.{Url, Body, Message}
-use Rattle.sedna_read.specs.Reading.{Answer, reading}
+use lib.{Dec.eqb, Dec.leb, ListN.length, ListN.drop, ListN.set}
+use Rattle.wire.specs.{Bytes.IsBytes, Bytes.if, Call.outputAfter, Calls.Done, declared.Refusal.Refusal, Refusals.numberOf}
+use Rattle.sedna.specs.{Message.Url, Message.Body, Message.Message}
+use Rattle.sedna_read.specs.Reading.{Answer}
 use Rattle.sedna_laws.specs.Pieces.{Bounded}
 use Rattle.parts_cut.specs.Cut.{cutStatement, cutItem, cutTypedItem}
 use Rattle.parts_cut.specs.Part.{statementParts, itemCount, typedItemCount, urlParts, CutPart, statementPart, itemPart, typedItemPart, typedItemUrlPart}
-use Rattle.parts_laws.specs.PartDue.{PartRight}
-use Rattle.parts_laws.specs.ThroughBytes.{Uncut}
-use Rattle.parts_join.specs.declared.Assembly.{Assembly}
-use Rattle.parts_join.specs.declared.Open.{Open}
-use Rattle.parts_join.specs.Answers.{Reply, reply}
-use Rattle.parts_join.specs.Cuttings.{Ending}
+use Rattle.parts_laws.specs.{PartDue.PartRight, ThroughBytes.Uncut}
+use Rattle.parts_join.specs.{declared.Assembly.Assembly, declared.Open.Open, Answers.Reply, Answers.reply, Cuttings.Ending}
 use Rattle.parts_join.specs.Joining.{opened, joined, bufferAfter}
 use Rattle.answer_c.specs.Codes.{countedCode}
 use Rattle.parts_c.specs.Joining.{openCode, openAfter, Outcome, outcome}
-use Rattle.demands.specs.Answered.{Answered, answered}
+use Rattle.demands.specs.Answered.{Answered, answered, Call, Told, unchanged}
 use Rattle.demands.specs.Gatherings.{Gathering, ASSEMBLY-SPOILT, ASSEMBLY-FIELDS, Means, TOLD-LENGTH, TOLD-FIELDS, TellsReply}
-use Rattle.demands.specs.Header.{_at_, SideOf}
-use Rattle.demands.specs.SednaCalls.{writtenAs}
+use Rattle.demands.specs.{Header._at_, Header.Nobody, Header.ReadsAs, SednaCalls.writtenAs}
 
 -- a size_t is below 2^64
 abbrev pub SIZES : ℕ
@@ -44,77 +32,74 @@ pub data OpenRight (what : ℕ) (d : List ℕ) : Answered → List ℕ → Type 
   fresh : (o : Open) (after : List ℕ) → ASSEMBLY-FIELDS ≤ length d → Gathering what o → ¬ (o ≡ Open.Nothing)
       → Means after (opened o) → drop ASSEMBLY-FIELDS after ≡ drop ASSEMBLY-FIELDS d → OpenRight what d (Answered.count 0) after
 
--- a call of `kdr_join`: the assembly's numbers, the buffer, a side's number, bytes, and the numbers that are lent to be told
-pub record Join : Type 0 where
+-- what the caller of `kdr_join` keeps from call to call: the assembly's numbers, and the buffer
+pub record Keeps : Type 0 where
   pub assembly : List ℕ
   pub buffer : List ℕ
-  pub side : ℕ
-  pub bytes : List ℕ
-  pub are-bytes : IsBytes bytes
-  pub told : List ℕ
-
--- what it answers, and what it leaves: the right sides of its contract
-pub record JoinDone : Type 0 where
-  pub answer : Answered
-  pub assembly : List ℕ
-  pub buffer : List ℕ
-  pub told : List ℕ
 
 -- an outcome, its code turned back
-abbrev pub turned : Outcome → JoinDone
-turned o = record { answer = answered (o .code); assembly = o .assembly; buffer = o .buffer; told = o .told }
+abbrev pub turned : Outcome → Done Keeps Told
+turned o = record {
+  record-after = record { assembly = o .assembly; buffer = o .buffer };
+  answer = record { answer = answered (o .code); numbers = o .told };
+}
 
-abbrev pub joinCalled : Join → JoinDone
-joinCalled c = turned (outcome (c .assembly) (c .buffer) (c .side) (c .bytes) (c .told))
-
--- a refusal's number alone, and everything as it was
-abbrev pub untouched : ℕ → Join → JoinDone
-untouched k c = record { answer = Answered.refusal k; assembly = c .assembly; buffer = c .buffer; told = c .told }
+-- the call, by the right sides of its contract
+abbrev pub joinCalled : Keeps → Call → Done Keeps Told
+joinCalled s c = turned (outcome (s .assembly) (s .buffer) (c .side) (c .bytes) (c .numbers))
 
 -- seven numbers are lent, and four to be told
-abbrev pub Lent : Join → Type 0
-Lent c = (ASSEMBLY-FIELDS ≤ length (c .assembly)) × (TOLD-FIELDS ≤ length (c .told))
+abbrev pub Lent : Keeps → Call → Type 0
+Lent s c = (ASSEMBLY-FIELDS ≤ length (s .assembly)) × (TOLD-FIELDS ≤ length (c .numbers))
 
--- the seven numbers mean the assembly a, and reading accepts the message m with n bytes
-pub record Offers (c : Join) (a : Assembly) (m : Message) (n : ℕ) : Type 0 where
-  pub lent : Lent c
-  pub means : Means (c .assembly) a
-  pub side : Side
-  pub is : SideOf (c .side) side
-  pub read : reading side (c .bytes) ≡ Answer.accepted m n
+-- the seven mean the assembly a, and reading accepts the message m with n bytes
+pub record Offers (s : Keeps) (c : Call) (a : Assembly) (m : Message) (n : ℕ) : Type 0 where
+  pub lent : Lent s c
+  pub means : Means (s .assembly) a
+  pub reads : ReadsAs (c .side) (c .bytes) (Answer.accepted m n)
 
 -- the assembly's numbers behind a refusal: "Only a gathering that met 12 is marked spoilt."
 abbrev pub refusedNumbers : ℕ → List ℕ → List ℕ
 refusedNumbers k d = if (eqb k 12) (set d ASSEMBLY-SPOILT 1) d
 
--- what 01 replies where m is joined to a, and the assembly then
-abbrev pub replied : Join → Assembly → Message → Reply
-replied c a m = reply (joined a (length (c .buffer)) m .answer)
+-- the number alone, and all as it was but for that mark
+abbrev pub refusedJoin : ℕ → Keeps → Call → Done Keeps Told
+refusedJoin k s c = unchanged k (record { assembly = refusedNumbers k (s .assembly); buffer = s .buffer }) c
 
-abbrev pub grownTo : Join → Assembly → Message → Assembly
-grownTo c a m = joined a (length (c .buffer)) m .assembly
+-- the bytes of the message; the assembly's numbers, the buffer and the numbers told, then
+abbrev pub acceptedJoin : ℕ → List ℕ → List ℕ → List ℕ → Done Keeps Told
+acceptedJoin n after buffer t = record {
+  record-after = record { assembly = after; buffer = buffer };
+  answer = record { answer = Answered.count n; numbers = t };
+}
+
+-- what 01 replies where m is joined to a, and the assembly then
+abbrev pub replied : Keeps → Assembly → Message → Reply
+replied s a m = reply (joined a (length (s .buffer)) m .answer)
+
+abbrev pub grownTo : Keeps → Assembly → Message → Assembly
+grownTo s a m = joined a (length (s .buffer)) m .assembly
 
 -- a call of `kdr_join` came out right. Where numbers mean an assembly afterwards, the next call takes them
-pub data JoinRight (c : Join) : JoinDone → Type 0 where
+pub data JoinRight (s : Keeps) (c : Call) : Done Keeps Told → Type 0 where
   -- "10 where fewer than seven numbers or fewer than four to be told are lent"
-  few : (length (c .assembly) < ASSEMBLY-FIELDS) ⊎ (length (c .told) < TOLD-FIELDS) → JoinRight c (untouched 10 c)
+  few : (length (s .assembly) < ASSEMBLY-FIELDS) ⊎ (length (c .numbers) < TOLD-FIELDS) → JoinRight s c (unchanged 10 s c)
   -- "8 for seven numbers that no assembly has"
-  no-assembly : Lent c → ((a : Assembly) → ¬ Means (c .assembly) a) → JoinRight c (untouched 8 c)
+  no-assembly : Lent s c → ((a : Assembly) → ¬ Means (s .assembly) a) → JoinRight s c (unchanged 8 s c)
   -- "8 for a side that is none"
-  nobody : (a : Assembly) → Lent c → Means (c .assembly) a → ((s : Side) → ¬ SideOf (c .side) s) → JoinRight c (untouched 8 c)
+  nobody : (a : Assembly) → Lent s c → Means (s .assembly) a → Nobody (c .side) → JoinRight s c (unchanged 8 s c)
   -- "then 1 to 8 as in reading"
-  unread : (a : Assembly) (s : Side) (r : Refusal) → Lent c → Means (c .assembly) a → SideOf (c .side) s → reading s (c .bytes) ≡ Answer.refused r
-      → JoinRight c (untouched (numberOf r) c)
-  -- then joining's: all stays, but for the mark of an overfull assembly
-  refused : (a : Assembly) (m : Message) (n k : ℕ) → Offers c a m n → replied c a m ≡ Reply.number k
-      → Means (refusedNumbers k (c .assembly)) (grownTo c a m)
-      → JoinRight c (record { answer = Answered.refusal k; assembly = refusedNumbers k (c .assembly); buffer = c .buffer; told = c .told })
-  -- the bytes of the message; the four numbers mean the reply, and what it hands over lies in the buffer; the seven mean the assembly then; the text goes to
-  -- the buffer, and the numbers behind stay
-  taken : (a : Assembly) (m : Message) (n : ℕ) (after t : List ℕ) → Offers c a m n
-      → TellsReply t (replied c a m) → t at TOLD-LENGTH ≤ length (c .buffer) → drop TOLD-FIELDS t ≡ drop TOLD-FIELDS (c .told)
-      → Means after (grownTo c a m) → drop ASSEMBLY-FIELDS after ≡ drop ASSEMBLY-FIELDS (c .assembly)
-      → JoinRight c (record { answer = Answered.count n; assembly = after; buffer = bufferAfter a (c .buffer) m; told = t })
+  unread : (a : Assembly) (r : Refusal) → Lent s c → Means (s .assembly) a → ReadsAs (c .side) (c .bytes) (Answer.refused r)
+      → JoinRight s c (unchanged (numberOf r) s c)
+  -- then joining's
+  refused : (a : Assembly) (m : Message) (n k : ℕ) → Offers s c a m n → replied s a m ≡ Reply.number k
+      → Means (refusedNumbers k (s .assembly)) (grownTo s a m) → JoinRight s c (refusedJoin k s c)
+  -- the four numbers mean the reply, and what it hands over lies in the buffer; the seven mean the assembly then; the text goes to the buffer, and the
+  -- numbers behind stay
+  accepted : (a : Assembly) (m : Message) (n : ℕ) (after t : List ℕ) → Offers s c a m n
+      → TellsReply t (replied s a m) → t at TOLD-LENGTH ≤ length (s .buffer) → drop TOLD-FIELDS t ≡ drop TOLD-FIELDS (c .numbers)
+      → Means after (grownTo s a m) → drop ASSEMBLY-FIELDS after ≡ drop ASSEMBLY-FIELDS (s .assembly)
+      → JoinRight s c (acceptedJoin n after (bufferAfter a (s .buffer) m) t)
 
 -- a call that writes that part came out right: the count or the number of its answer, and what is due
 pub record PartCalled (u : Uncut) (k : ℕ) (out : List ℕ) (part : CutPart) : Type 0 where
@@ -147,4 +132,4 @@ pub record PartsCalls : Type 0 where
   -- `kdr_open`, for any number and any lent numbers
   pub «open» : (what : ℕ) (d : List ℕ) → OpenRight what d (answered (openCode what d)) (openAfter what d)
   -- `kdr_join`, for any arguments
-  pub join : (c : Join) → JoinRight c (joinCalled c)
+  pub join : (s : Keeps) (c : Call) → JoinRight s c (joinCalled s c)

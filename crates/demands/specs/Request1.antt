@@ -2,11 +2,7 @@
 use mathlib.Core.List.{List}
 use Prim.Native.Nat.{ℕ}
 use Rattle.sedna_instant.specs.declared.Instant.{Instant}
-use Rattle.sedna_value_laws.specs.Counting.{Counting}
-use Rattle.sedna_value_laws.specs.Division.{Division}
-use Rattle.sedna_value_laws.specs.Examples.{Examples}
-use Rattle.sedna_value_laws.specs.Exactly.{Valuing}
-use Rattle.sedna_value_laws.specs.Incident.{Incident}
+use Rattle.sedna_value_laws.specs.{Counting.Counting, Division.Division, Examples.Examples, Exactly.Valuing, Incident.Incident}
 use Rattle.sedna_value_laws.specs.Order.{Ordered, Strict, HandedProper}
 use Rattle.demands.specs.ValueCalls.{ValueCalls}
 

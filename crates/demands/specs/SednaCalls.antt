@@ -1,44 +1,29 @@
 -- What `kdr_read` and `kdr_option` answer and leave, and what the calls that write a message answer, turned back into what it means by the header's
 -- names. What `answered` is applied to, and what is named as left, are the right sides of the contracts; those of the session's calls are in Exports.antt.
-use mathlib.Core.Bool.{Bool, false}
-use mathlib.Core.List.{List}
-use mathlib.Core.Option.{Option, none, some}
-use mathlib.Core.Path.{_≡_}
+use mathlib.Core.{Bool.Bool, Bool.false, List.List, Option.Option, Option.none, Option.some, Path._≡_}
 use Prim.Native.Nat.{ℕ, _≤_, _<_}
 use lib.ListN.{length, drop, getElem?}
-use Rattle.wire.specs.Bytes.{IsBytes}
-use Rattle.wire.specs.Call.{outputAfter}
-use Rattle.wire.specs.declared.Refusal.{Refusal}
-use Rattle.wire.specs.Refusals.{numberOf}
-use Rattle.sedna.specs.declared.Entry.{Entry}
-use Rattle.sedna.specs.declared.Shape.{Shape}
-use Rattle.sedna.specs.declared.Side.{Side}
-use Rattle.sedna.specs.Encode.{encode}
-use Rattle.sedna.specs.Message.{Pair, Body, Message, message}
-use Rattle.sedna.specs.Table.{InTable}
-use Rattle.sedna_read.specs.Meaning.{optionIn}
-use Rattle.sedna_read.specs.Places.{optionAt}
-use Rattle.sedna_read.specs.Reading.{Answer, reading}
-use Rattle.wire.specs.declared.Counted.{Counted}
-use Rattle.sedna_write.specs.Pairs.{given, optionsMessage, optionsWritten}
-use Rattle.sedna_write.specs.Writing.{judgement}
+use Rattle.wire.specs.{Bytes.IsBytes, Call.outputAfter, declared.Refusal.Refusal, Refusals.numberOf, declared.Counted.Counted}
+use Rattle.sedna.specs.{declared.Shape.Shape, Encode.encode, Message.Pair, Message.Body, Message.Message, Message.message}
+use Rattle.sedna_read.specs.{Meaning.optionIn, Places.optionAt, Reading.Answer}
+use Rattle.sedna_write.specs.{Pairs.given, Pairs.optionsMessage, Pairs.optionsWritten, Writing.judgement}
+use Rattle.sedna_laws.specs.Unwritten.{UnwrittenLists}
 use Rattle.sedna_c.specs.Codes.{sideReading, readCode, fieldsLeft, optionCode, optionLeft}
 use Rattle.answer_c.specs.Codes.{countedCode}
 use Rattle.demands.specs.Answered.{Answered, answered}
-use Rattle.demands.specs.Header.{_at_, slice, Inside, SideOf, START-1, LENGTH-1, COUNT, FIELDS, pairTold, Tells}
-use Rattle.demands.specs.Header.{OPTION-START, OPTION-LENGTH, OPTION-FIELDS}
+use Rattle.demands.specs.Header.{_at_, slice, Inside, Nobody, ReadsAs, START-1, LENGTH-1, COUNT, FIELDS, pairTold, Tells, OPTION-START, OPTION-LENGTH}
+use Rattle.demands.specs.Header.{OPTION-FIELDS}
 
 -- a call of `kdr_read` with lent numbers came out right: what it answers, and what the numbers are then
 pub data ReadRight (side : ℕ) (bytes lent : List ℕ) : Answered → List ℕ → Type 0 where
   -- "8 for a side that is none"
-  nobody : ((s : Side) → ¬ SideOf side s) → ReadRight side bytes lent (Answered.refusal 8) lent
+  nobody : Nobody side → ReadRight side bytes lent (Answered.refusal 8) lent
   -- "then 1 to 8 in document 01's order"
-  unread : (s : Side) (r : Refusal) → SideOf side s → reading s bytes ≡ Answer.refused r → ReadRight side bytes lent (Answered.refusal (numberOf r)) lent
+  unread : (r : Refusal) → ReadsAs side bytes (Answer.refused r) → ReadRight side bytes lent (Answered.refusal (numberOf r)) lent
   -- "last 10 where fewer than ten numbers are lent"
-  no-room : (s : Side) (m : Message) (n : ℕ) → SideOf side s → reading s bytes ≡ Answer.accepted m n → length lent < FIELDS
-      → ReadRight side bytes lent (Answered.refusal 10) lent
+  no-room : (m : Message) (n : ℕ) → ReadsAs side bytes (Answer.accepted m n) → length lent < FIELDS → ReadRight side bytes lent (Answered.refusal 10) lent
   -- the bytes of the message; the ten numbers mean it, and those behind them stay
-  told : (s : Side) (m : Message) (n : ℕ) (f : List ℕ) → SideOf side s → reading s bytes ≡ Answer.accepted m n → FIELDS ≤ length lent
+  accepted : (m : Message) (n : ℕ) (f : List ℕ) → ReadsAs side bytes (Answer.accepted m n) → FIELDS ≤ length lent
       → Tells bytes f m → drop FIELDS f ≡ drop FIELDS lent → ReadRight side bytes lent (Answered.count n) f
 
 -- a call of `kdr_option` came out right, where there is that option or none
@@ -48,7 +33,7 @@ pub data OptionRight (bytes lent : List ℕ) : Option Pair → Answered → List
   -- "10 where there is one and fewer than three numbers are lent"
   no-room : (p : Pair) → length lent < OPTION-FIELDS → OptionRight bytes lent (some p) (Answered.refusal 10) lent
   -- "The answer is 1, and `fields` gets three numbers"
-  told : (p : Pair) (f : List ℕ) → OPTION-FIELDS ≤ length lent → pairTold bytes f ≡ p → Inside bytes (f at OPTION-START) (f at OPTION-LENGTH)
+  found : (p : Pair) (f : List ℕ) → OPTION-FIELDS ≤ length lent → pairTold bytes f ≡ p → Inside bytes (f at OPTION-START) (f at OPTION-LENGTH)
       → drop OPTION-FIELDS f ≡ drop OPTION-FIELDS lent → OptionRight bytes lent (some p) (Answered.count 1) f
 
 -- that of option k of those that stand at a start, by its contract
@@ -62,11 +47,6 @@ abbrev pub writtenAs : Counted → Answered
 writtenAs (Counted.Count n) = Answered.count n
 writtenAs (Counted.Refused r) = Answered.refusal (numberOf r)
 
--- "Lists that do not belong together … are a value that is not allowed: 8"; an instruction that the table lacks goes ahead; the output stays
-pub data ListsRefused (instruction : ℕ) (out : List ℕ) : Answered → List ℕ → Type 0 where
-  unknown : ((e : Entry) → InTable e → ¬ (e .0 ≡ instruction)) → ListsRefused instruction out (Answered.refusal 2) out
-  value : (e : Entry) → InTable e → e .0 ≡ instruction → ListsRefused instruction out (Answered.refusal 8) out
-
 pub record SednaCalls : Type 0 where
   -- ten numbers mean one message
   pub one-message : (bytes f : List ℕ) (m m′ : Message) → Tells bytes f m → Tells bytes f m′ → m ≡ m′
@@ -78,14 +58,15 @@ pub record SednaCalls : Type 0 where
       → OptionCalled bytes start length′ k lent (optionIn bytes (optionAt k start (slice bytes start length′)))
   -- of a SetOptions with ps that `kdr_read` told: COUNT is how many there are, and by its START_1 and LENGTH_1 `kdr_option` hands out the k-th of ps
   pub options : (side : ℕ) (bytes f : List ℕ) → IsBytes bytes → FIELDS ≤ length f
-      → (s : Side) (i n : ℕ) (ps : List Pair) → SideOf side s → reading s bytes ≡ Answer.accepted (message i (Body.options ps)) n
+      → (i n : ℕ) (ps : List Pair) → ReadsAs side bytes (Answer.accepted (message i (Body.options ps)) n)
       → (fieldsLeft (sideReading side bytes) f at COUNT ≡ length ps)
       × ((k : ℕ) (lent : List ℕ)
       → OptionCalled bytes (fieldsLeft (sideReading side bytes) f at START-1) (fieldsLeft (sideReading side bytes) f at LENGTH-1) k lent (getElem? ps k))
   -- each call that writes a message: `written` is such a judgement, and `Demand2.sedna.writing-exact`, `Demand1.sedna.writing-refused` say which
   pub write : (instruction : ℕ) (shape : Shape) (ok : Bool) (n room : ℕ)
       → answered (countedCode (judgement instruction shape ok n room)) ≡ writtenAs (judgement instruction shape ok n room)
-  -- `kdr_write_options`, where the three lists do not belong together
+  -- `kdr_write_options`, where the three lists do not belong together: 2 or 8 by the table, and the output stays
   pub lists : (instruction : ℕ) (ids lengths values out : List ℕ) → given ids lengths values ≡ false
-      → ListsRefused instruction out (answered (countedCode (optionsWritten (length out) instruction ids lengths values)))
-      (outputAfter (optionsWritten (length out) instruction ids lengths values) out 0 (encode (optionsMessage instruction ids lengths values)))
+      → (r : Refusal) × UnwrittenLists instruction r
+      × (answered (countedCode (optionsWritten (length out) instruction ids lengths values)) ≡ Answered.refusal (numberOf r))
+      × (outputAfter (optionsWritten (length out) instruction ids lengths values) out 0 (encode (optionsMessage instruction ids lengths values)) ≡ out)

@@ -1,15 +1,8 @@
 -- Demand 3, drawn for the records of a transcript: over the very list of records that the transcript program prints a line for, and what it answers each.
-use mathlib.Core.Bool.{true, false}
-use mathlib.Core.List.{List, [], _∷_, _++_}
-use mathlib.Core.Logic.{_↔_}
-use mathlib.Core.Path.{_≡_}
+use mathlib.Core.{Bool.true, Bool.false, List.List, List.[], List._∷_, List._++_, Logic._↔_, Path._≡_}
 use Prim.Native.Nat.{ℕ, _<_}
-use lib.Dec.{eqb}
-use lib.ListN.{length}
-use Rattle.wire.specs.Bytes.{IsBytes, if}
-use Rattle.wire.specs.Calls.{keptAfter, AllRight}
-use Rattle.wire.specs.Refusals.{numberOf}
-use Rattle.wire.specs.declared.Refusal.{Refusal}
+use lib.{Dec.eqb, ListN.length}
+use Rattle.wire.specs.{Bytes.IsBytes, Bytes.if, Calls.keptAfter, Calls.AllRight, Refusals.numberOf, declared.Refusal.Refusal}
 use Rattle.sedna.specs.Message.{Message}
 use Rattle.sedna_read.specs.Reading.{Answer, reading}
 use Rattle.grammar.specs.Conversation.{Whole, Begins}
@@ -44,10 +37,6 @@ accepting before r x = acceptingBy before (readAs r) x
 abbrev pub recordsIn : List ℕ → List Record
 recordsIn input = records input .sound
 
--- what they are answered, from a fresh session on
-abbrev pub numbersIn : List ℕ → List ℕ
-numbersIn input = answers freshSession (recordsIn input)
-
 -- the messages accepted of them
 abbrev pub acceptedIn : List ℕ → List Message
 acceptedIn input = keptAfter recordCall accepting [] freshSession (recordsIn input)
@@ -61,7 +50,7 @@ pub record Drawn (input : List ℕ) : Type 0 where
   -- "The accepted messages, in their order, begin a conversation of document 01's grammar"
   pub begun : Begins (acceptedIn input)
   -- what each record got
-  pub judged : AllRight recordCall accepting (λ before s r done. RightNumber before r (done .answer)) [] freshSession (recordsIn input)
+  pub right : AllRight recordCall accepting (λ before s r done. RightNumber before r (done .answer)) [] freshSession (recordsIn input)
   -- "The session reports itself closed exactly when the accepted ones are a whole conversation": so says the last line, where the input is not damaged
   pub closed : (lastIn input ≡ saysClosed) ↔ ((records input .damaged ≡ false) × Whole (acceptedIn input))
   pub still-open : (lastIn input ≡ saysOpen) ↔ ((records input .damaged ≡ false) × ¬ Whole (acceptedIn input))
@@ -70,6 +59,6 @@ pub record Drawn (input : List ℕ) : Type 0 where
 -- the bytes of a slice are bytes: `IsBytes input` is no condition on a caller
 pub record Demand3Transcript : Type 0 where
   -- what is printed is a line for each of these records with its answer, and that last line ..
-  pub prints : (input : List ℕ) → printed input ≡ lines 1 (recordsIn input) (numbersIn input) ++ lastIn input
+  pub prints : (input : List ℕ) → printed input ≡ lines 1 (recordsIn input) (answers freshSession (recordsIn input)) ++ lastIn input
   -- .. of which demand 3's claim holds
   pub drawn : (input : List ℕ) → IsBytes input → Drawn input

@@ -1,21 +1,12 @@
 -- Document 02, request 1, of the exported calls: what `kdr_value` and `kdr_compare` answer and leave, turned back into what it means by the names of
 -- bindings/c/keddorimp.h.
-use mathlib.Core.Bool.{true, false}
-use mathlib.Core.List.{List, _∷_}
-use mathlib.Core.Logic.{_⊎_}
-use mathlib.Core.Path.{_≡_}
+use mathlib.Core.{Bool.true, Bool.false, List.List, List._∷_, Logic._⊎_, Path._≡_}
 use Prim.Native.Nat.{ℕ, _≤_, _<_}
-use lib.Ieee.{Float, fin}
-use lib.IntN.{ℤ, pos, negsuc}
-use lib.ListN.{length, drop}
-use lib.Signed.{_<ℤ_}
+use lib.{Ieee.Float, Ieee.fin, IntN.ℤ, IntN.pos, IntN.negsuc, ListN.length, ListN.drop, Signed._<ℤ_}
 use Rattle.sedna_instant.specs.declared.Instant.{Instant}
 use Rattle.sedna_value.specs.declared.Value.{Value}
-use Rattle.sedna_value_laws.specs.Exactly.{Literal}
-use Rattle.sedna_value_laws.specs.Order.{point, Before, Proper}
-use Rattle.sedna_value_laws.specs.Texts.{Means, Excluded}
-use Rattle.value_c.specs.Orders.{compared}
-use Rattle.value_c.specs.Values.{Outcome, outcome}
+use Rattle.sedna_value_laws.specs.{Exactly.Literal, Order.point, Order.Before, Order.Proper, Texts.Means, Texts.Excluded}
+use Rattle.value_c.specs.{Orders.compared, Values.Outcome, Values.outcome}
 use Rattle.demands.specs.Answered.{Answered, answered}
 
 -- enum kdr_value_kind

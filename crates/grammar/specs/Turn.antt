@@ -1,11 +1,6 @@
 -- "Messages alternate by turn": who has the turn behind messages that begin a conversation. No machine is known here.
-use mathlib.Core.List.{List, [], _∷_, _++_}
-use mathlib.Core.Option.{Option, none, some}
-use mathlib.Core.Path.{_≡_}
-use Rattle.sedna.specs.declared.Side.{Side}
-use Rattle.sedna.specs.Message.{Message}
-use Rattle.sedna.specs.Names.{ErrorResponse}
-use Rattle.sedna.specs.Published.{Published}
+use mathlib.Core.{List.List, List.[], List._∷_, List._++_, Option.Option, Option.none, Option.some, Path._≡_}
+use Rattle.sedna.specs.{declared.Side.Side, Message.Message, Names.ErrorResponse, Published.Published}
 use Rattle.grammar.specs.Conversation.{Whole, Begins}
 
 -- a message that the side sends goes on

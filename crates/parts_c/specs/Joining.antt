@@ -1,22 +1,12 @@
 -- Joining for programs in C and Rust: the caller keeps the assembly in the first seven numbers of what it lends.
-use mathlib.Core.Bool.{Bool}
-use mathlib.Core.List.{List, [], _∷_, _++_}
-use mathlib.Core.Path.{_≡_}
+use mathlib.Core.{Bool.Bool, List.List, List.[], List._∷_, List._++_, Path._≡_}
 use Prim.Native.Nat.{ℕ}
-use lib.Dec.{eqb, ltb}
-use lib.ListN.{length, getD, drop}
-use Rattle.wire.specs.Bytes.{if}
-use Rattle.wire.specs.declared.Refusal.{Refusal}
-use Rattle.wire.specs.declared.Refusal.the-variants.{ValueNotAllowed, NoRoom}
+use lib.{Dec.eqb, Dec.ltb, ListN.length, ListN.getD, ListN.drop}
+use Rattle.wire.specs.{Bytes.if, declared.Refusal.Refusal, declared.Refusal.the-variants.ValueNotAllowed, declared.Refusal.the-variants.NoRoom}
 use Rattle.answer_c.specs.Codes.{refusalCode}
 use Rattle.sedna.specs.Message.{Message}
-use Rattle.sedna_read.specs.declared.Reading.{Reading}
-use Rattle.sedna_read.specs.Meaning.{bodyIn}
-use Rattle.parts_join.specs.declared.Answer.{Answer}
-use Rattle.parts_join.specs.declared.Assembly.{Assembly}
-use Rattle.parts_join.specs.declared.Joined.{Joined}
-use Rattle.parts_join.specs.declared.Open.{Open}
-use Rattle.parts_join.specs.Roles.{label}
+use Rattle.sedna_read.specs.{declared.Reading.Reading, Meaning.bodyIn}
+use Rattle.parts_join.specs.{declared.Answer.Answer, declared.Assembly.Assembly, declared.Joined.Joined, declared.Open.Open, Roles.label}
 use Rattle.parts_join.specs.Joining.{opened, joined, bufferAfter}
 use Rattle.parts_c.specs.declared.joining.Meant.{Meant}
 use Rattle.sedna_c.specs.Codes.{sideReading}

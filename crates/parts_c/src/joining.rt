@@ -63,7 +63,6 @@ fn meant_by(assembly: &[u64]) -> Meant
 {
     let what = assembly[0];
     let begun = assembly[1];
-    let held = assembly[2];
     let overflowed = assembly[3];
     let format = assembly[4];
     let class = assembly[5];
@@ -86,18 +85,16 @@ fn meant_by(assembly: &[u64]) -> Meant
     if 255 < kind {
         return Meant::Nothing;
     }
-    let label = Label {
-        format: format as u8,
-        class: class as u8,
-        kind: kind as u8,
-    };
-    let open = open_of(what);
     Meant::Is(Assembly {
-        what: open,
+        what: open_of(what),
         begun: begun == 1,
-        held: held as usize,
+        held: assembly[2] as usize,
         overflowed: overflowed == 1,
-        label,
+        label: Label {
+            format: format as u8,
+            class: class as u8,
+            kind: kind as u8,
+        },
     })
 }
 

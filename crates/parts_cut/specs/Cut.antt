@@ -1,8 +1,7 @@
 -- Document 01, "Cutting and joining": the messages that a statement and an item are cut into.
 use mathlib.Core.List.{List, [], _∷_, _++_, map}
 use Prim.Native.Nat.{ℕ, zero, suc, _-_}
-use lib.Dec.{leb}
-use lib.ListN.{length, take, drop}
+use lib.{Dec.leb, ListN.length, ListN.take, ListN.drop}
 use Rattle.wire.specs.Bytes.{if}
 use Rattle.sedna.specs.Message.{Url, Body, Message, message}
 use Rattle.sedna.specs.Names as M

@@ -1,18 +1,11 @@
 -- How many parts a cut has, and what writing part k of it answers and leaves: "When writing or cutting: 2, 8, 11, 14, 10."
-use mathlib.Core.Bool.{Bool, true}
-use mathlib.Core.List.{List, []}
-use mathlib.Core.Option.{Option, none, some}
+use mathlib.Core.{Bool.Bool, Bool.true, List.List, List.[], Option.Option, Option.none, Option.some}
 use Prim.Native.Nat.{ℕ, zero, suc, _+_, _-_, _/_}
-use lib.Dec.{leb}
-use lib.ListN.{length, getElem?}
-use Rattle.wire.specs.Bytes.{if}
-use Rattle.wire.specs.Call.{Writes}
+use lib.{Dec.leb, ListN.length, ListN.getElem?}
+use Rattle.wire.specs.{Bytes.if, Call.Writes}
 use Rattle.wire.specs.declared.Refusal.the-variants.{ValueNotAllowed, NoEncoding, NoSuchPart}
-use Rattle.sedna.specs.Encode.{encode}
-use Rattle.sedna.specs.Allowed.{formatAllowed, allowed}
-use Rattle.sedna.specs.Message.{Url, Body, Message}
-use Rattle.wire.specs.declared.Counted.{Counted}
-use Rattle.wire.specs.declared.Counted.the-variants.{Count, Refused}
+use Rattle.wire.specs.{declared.Counted.Counted, declared.Counted.the-variants.Count, declared.Counted.the-variants.Refused}
+use Rattle.sedna.specs.{Encode.encode, Allowed.formatAllowed, Allowed.allowed, Message.Url, Message.Body, Message.Message}
 use Rattle.sedna_write.specs.Writing.{written}
 use Rattle.parts_cut.specs.Cut.{statementRoom, partRoom, cutStatement, cutItem, cutTypedItem}
 
@@ -67,15 +60,15 @@ cutPart allowed encodable cut k = record { answer = partWritten allowed encodabl
 abbrev pub WritesPart : CutPart → List ℕ → Counted → List ℕ → Type 0
 WritesPart part out = Writes (part .answer (length out)) out 0 (part .bytes)
 
--- part k of a statement
+-- of a statement: 8 for its format, and no 11
 abbrev pub statementPart : ℕ → List ℕ → ℕ → CutPart
 statementPart format text k = cutPart (formatAllowed format) true (cutStatement format text) k
 
--- of an item up to 3.0
+-- of an item up to 3.0: neither
 abbrev pub itemPart : List ℕ → ℕ → CutPart
 itemPart text k = cutPart true true (cutItem text) k
 
--- of an item in 4.0
+-- of an item in 4.0: 8 for class and type, and 11 for a URL
 abbrev pub typedItemPart : ℕ → ℕ → List ℕ → ℕ → CutPart
 typedItemPart class kind text k = cutPart (allowed (Body.item class kind Url.absent text)) true (cutTypedItem class kind Url.absent text) k
 

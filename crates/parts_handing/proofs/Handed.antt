@@ -12,7 +12,7 @@ use Rattle.sedna.specs.Message.{Message}
 use Rattle.parts_join.specs.declared.Assembly.{Assembly}
 use Rattle.parts_join.specs.Answers.{Reply, reply, bytesHanded}
 use Rattle.parts_join.specs.Calls.{Gathered, openedWith, joinCall, Run, run}
-use Rattle.parts_join.specs.Cuttings.{Cutting, before, last, messages, opening, values, whole, taken, AllAllowed}
+use Rattle.parts_join.specs.Cuttings.{Cutting, before, last, messages, opening, values, whole, AllAllowed}
 use Rattle.parts_join.specs.Joining.{joined, isAccepted, bufferAfter}
 use Rattle.parts_join.specs.Roles.{textOf}
 use Rattle.parts_join.proofs.Cuttings.{joins}
@@ -68,7 +68,7 @@ handed-text c v d f =
     replied =
         sym (final-last Reply.taken earlier (joinCall (gathered c d) (last c) .answer))
         ∙ ap (final Reply.taken) (sym (answers-last joinCall (openedWith (opening c) d) (before c) (last c)) ∙ ap (λ (r : Run). r .replies) (joins c v d .fits f))
-        ∙ final-last Reply.taken (map taken (before c)) (Reply.whole (values c) (length (whole c)))
+        ∙ final-last Reply.taken (map (λ (m : Message). Reply.taken) (before c)) (Reply.whole (values c) (length (whole c)))
 
 pub hands-over : HandsOver
 hands-over = record { all = handed-all; text = handed-text }

@@ -1,6 +1,6 @@
 -- Every cutting joins: the laws of Runs at the four kinds of cutting.
 use mathlib.Core.Bool.{true, false}
-use mathlib.Core.List.{List, [], _∷_, _++_, map, flatten}
+use mathlib.Core.List.{List, [], _∷_, _++_, map, flatten, flatMap}
 use mathlib.Core.Path.{_≡_, refl, sym, ap, subst, _∙_}
 use Prim.Native.Nat.{ℕ, _+_, _-_, _≤_, _<_}
 use native.Mathlib.Omega.{arith}
@@ -15,7 +15,7 @@ use Rattle.parts_join.specs.declared.Open.the-variants as gathering
 use Rattle.parts_join.specs.Answers.{Reply}
 use Rattle.parts_join.specs.Calls.{Run, openedWith, run, shortReplies, shortText}
 use Rattle.parts_join.specs.Cuttings.{Piece, Ending, Cutting, executeLong, itemPart, ending, before, last, messages, texts, values, AllAllowed, fronted}
-use Rattle.parts_join.specs.Cuttings.{whole, calls, taken, returned, Joins}
+use Rattle.parts_join.specs.Cuttings.{whole, calls, returned, Joins}
 use Rattle.parts_join.specs.Joining.{opened, closed}
 use Rattle.parts_join.specs.Offered.{textIn}
 use Rattle.parts_join.specs.Roles.{textOf, labelOf}
@@ -30,12 +30,12 @@ over-fronted d s =
     ap (λ (n : ℕ). s ++ drop n d) z
 
 -- what `Joins` says, of the texts as the messages have them
-record Sound (c : Cutting) (d : List ℕ) (ts : List (List ℕ)) : Type 0 where
-  pub fits : length (flatten ts) ≤ length d → calls c d ≡ record {
-    gathered = beside closed d (flatten ts);
-    replies = map taken (before c) ++ (Reply.whole (values c) (length (flatten ts)) ∷ []);
+record Sound (c : Cutting) (d s : List ℕ) (ts : List (List ℕ)) : Type 0 where
+  pub fits : length s ≤ length d → calls c d ≡ record {
+    gathered = beside closed d s;
+    replies = map (λ (m : Message). Reply.taken) (before c) ++ (Reply.whole (values c) (length s) ∷ []);
   }
-  pub short : length d < length (flatten ts) → Overrun (calls c d) d (shortText (length d - 0) ts) (shortReplies (length d - 0) ts)
+  pub short : length d < length s → Overrun (calls c d) d (shortText (length d - 0) ts) (shortReplies (length d - 0) ts)
 
 -- the messages behind the first, with allowed values
 next-taken : (what : Open) (ms : List Message) (e : Message) → Every (Placed what true false) ms → Placed what true true e
@@ -68,13 +68,13 @@ module _ {what : Open} {m : Message} {ms : List Message} {e : Message} (parts : 
       (part-fits (opened what) d [] m refl refl (ms ++ (e ∷ [])) ms first f (runs-fit what (labelOf (m .body)) d e (next .1) (textOf (m .body)) ms (next .0)))
 
   first-short : length d < length (textIn (m ∷ ms ++ (e ∷ []))) → Short (run (openedWith what d) (m ∷ ms ++ (e ∷ []))) d [] (m ∷ ms ++ (e ∷ []))
-  unfolding flatten
+  unfolding flatMap
   first-short o =
       fresh-short what d (m ∷ ms ++ (e ∷ []))
       (part-short (opened what) d [] m refl refl (ms ++ (e ∷ [])) (omega arith) first (all-taken what ms e (next .0) (next .1))
       (λ k. runs-short what (labelOf (m .body)) d e (next .1) (textOf (m .body)) ms (next .0) k o))
 
-sound : (c : Cutting) → AllAllowed (messages c) → (d : List ℕ) → Sound c d (added (messages c))
+sound : (c : Cutting) → AllAllowed (messages c) → (d : List ℕ) → Sound c d (textIn (messages c)) (added (messages c))
 sound (Cutting.short p) v d =
     let m : Message = last (Cutting.short p) in
     let all : Taken gathering.Statement false true m = record { values = v .0; place = sole p } in
@@ -104,6 +104,14 @@ texts-added (Cutting.long p ps) = ap (λ (us : List (List ℕ)). p .text ∷ us)
 texts-added (Cutting.item t ts e) = ap (λ (us : List (List ℕ)). t ∷ us) (item-texts ts e)
 texts-added (Cutting.typed-item class kind url t ts e) = ap (λ (us : List (List ℕ)). t ∷ us) (item-texts ts e)
 
+text-in : (ms : List Message) → textIn ms ≡ flatten (added ms)
+unfolding flatMap flatten
+text-in [] = refl
+text-in (m ∷ ms) = ap (λ (s : List ℕ). textOf (m .body) ++ s) (text-in ms)
+
+pub text-made : (c : Cutting) → textIn (messages c) ≡ whole c
+text-made c = text-in (messages c) ∙ ap flatten (texts-added c)
+
 -- every cutting with allowed values joins
 pub joins : (c : Cutting) → AllAllowed (messages c) → (d : List ℕ) → Joins c d
 joins c v d = record {
@@ -114,8 +122,8 @@ joins c v d = record {
   marked = λ o. of-texts .short o .mark;
 }
   where
-    of-texts : Sound c d (texts c)
-    of-texts = subst (Sound c d) (texts-added c) (sound c v d)
+    of-texts : Sound c d (whole c) (texts c)
+    of-texts = subst (λ (s : List ℕ). Sound c d s (texts c)) (text-made c) (subst (Sound c d (textIn (messages c))) (texts-added c) (sound c v d))
 
     less-none : length d - 0 ≡ length d
     less-none = omega arith

@@ -1,6 +1,6 @@
 -- Joining answers every list of messages as the cuttings say: the record follows the messages accepted.
 use mathlib.Core.Bool.{Bool, true, false}
-use mathlib.Core.List.{List, [], _∷_, _++_, flatten, append-nil, append-assoc}
+use mathlib.Core.List.{List, [], _∷_, _++_, append-nil, flatMap}
 use mathlib.Core.Path.{_≡_, refl, sym, ap, subst, _∙_}
 use Prim.Native.Nat.{ℕ, _≤_, _<_}
 use native.Mathlib.Omega.{arith}
@@ -13,6 +13,7 @@ use Rattle.wire.specs.Refusals.{numberOf}
 use Rattle.wire.specs.declared.Refusal.{Refusal}
 use Rattle.wire.specs.declared.Refusal.the-variants.{ValueNotAllowed, OutOfOrder, BufferOverrun}
 use Rattle.wire.proofs.Calls.{all-right, holds-after}
+use Rattle.wire.proofs.Lists.{flatMap-append}
 use Rattle.wire.proofs.Splices.{splice-none}
 use Rattle.sedna.specs.Allowed.{allowed}
 use Rattle.sedna.specs.Message.{Message}
@@ -27,7 +28,7 @@ use Rattle.parts_join.specs.Cuttings.{values, whole}
 use Rattle.parts_join.specs.Joining.{closed, refused, joined}
 use Rattle.parts_join.specs.Offered.{Cut, Begun, textIn, RightReply, Accepted, noneAccepted, accept, RightCall, Offered}
 use Rattle.parts_join.specs.Roles.{together, roleOf, takes, inOrder, ends, textOf, label, labelOf}
-use Rattle.parts_join.proofs.Cuttings.{over-fronted, texts-added}
+use Rattle.parts_join.proofs.Cuttings.{over-fronted, text-made}
 use Rattle.parts_join.proofs.Forms.{form, part-of, Reached, reached-begun, Ended, Goes, goes}
 use Rattle.parts_join.proofs.Places.{not-both, since, cut-at, begun-at, part-kind, cut-ends}
 use Rattle.parts_join.proofs.Steps.{Taken, going, beside, did, joined-value, joined-other, joined-late, joined-spoilt, call-refused}
@@ -43,10 +44,8 @@ pub data Follows (what : Open) (ms : List Message) : Bool → Assembly → Type 
   ended : Cut what ms → Follows what ms false closed
 
 text-behind : (ms : List Message) (m : Message) → textIn (ms ++ (m ∷ [])) ≡ textIn ms ++ textOf (m .body)
-unfolding flatten
-text-behind [] m = append-nil (textOf (m .body))
-text-behind (x ∷ ms) m =
-    ap (λ (t : List ℕ). textOf (x .body) ++ t) (text-behind ms m) ∙ sym (append-assoc (textOf (x .body)) (textIn ms) (textOf (m .body)))
+unfolding flatMap
+text-behind ms m = flatMap-append (λ (x : Message). textOf (x .body)) ms (m ∷ []) ∙ ap (λ (t : List ℕ). textIn ms ++ t) (append-nil (textOf (m .body)))
 
 since-behind : (ms : List Message) (m : Message) → since false (ms ++ (m ∷ [])) ≡ true
 since-behind [] m = refl
@@ -138,7 +137,7 @@ module _ (what : Open) (d : List ℕ) (ms : List Message) (m : Message) (room : 
       end-step : ends (roleOf what m) ≡ true → Ended what (ms ++ (m ∷ [])) first → Step false (holding what ms false l)
       end-step e g =
           let c = g .cut .cutting in
-          let all : textIn (ms ++ (m ∷ [])) ≡ whole c = ap textIn (sym (g .cut .made)) ∙ ap flatten (texts-added c) in
+          let all : textIn (ms ++ (m ∷ [])) ≡ whole c = ap textIn (sym (g .cut .made)) ∙ text-made c in
           comes (holding what ms false l)
           (step-end (holding what ms false l) d (textIn ms) m refl refl (taken true e) in-room
           ∙ ap (did (beside closed d (textIn ms ++ textOf (m .body))))
@@ -189,7 +188,7 @@ module _ (what : Open) (d : List ℕ) where
       (step what d (k .messages) m (h .room) (h .follows))
 
   pub fresh-holds : Holds what d noneAccepted (openedWith what d)
-  unfolding flatten
+  unfolding flatMap
   fresh-holds = record { follows = Follows.under-way false (label 0 0 0) Reached.fresh; buffer = sym (splice-none d 0); room = omega arith }
 
   pub offered : (offers : List Message) → Offered what d offers

@@ -1,6 +1,6 @@
 -- A whole list of calls, by induction on the parts, for every kind of assembly at once.
 use mathlib.Core.Bool.{Bool, true, false}
-use mathlib.Core.List.{List, [], _∷_, _++_, map, flatten, append-nil, append-assoc}
+use mathlib.Core.List.{List, [], _∷_, _++_, map, flatMap, append-nil, append-assoc}
 use mathlib.Core.Path.{_≡_, refl, sym, ap, _∙_}
 use Prim.Native.Nat.{ℕ, _+_, _-_, _≤_, _<_}
 use native.Mathlib.Omega.{arith}
@@ -16,8 +16,7 @@ use Rattle.parts_join.specs.declared.Assembly.{Assembly}
 use Rattle.parts_join.specs.declared.Label.{Label}
 use Rattle.parts_join.specs.declared.Open.{Open}
 use Rattle.parts_join.specs.Answers.{Reply, reply}
-use Rattle.parts_join.specs.Calls.{Gathered, joinCall, Run, run, overran, shortReplies, shortText}
-use Rattle.parts_join.specs.Cuttings.{taken}
+use Rattle.parts_join.specs.Calls.{Gathered, joinCall, Run, run, shortReplies, shortText}
 use Rattle.parts_join.specs.Joining.{closed, marked, wholeOf}
 use Rattle.parts_join.specs.Offered.{textIn}
 use Rattle.parts_join.specs.Roles.{roleOf, takes, textOf}
@@ -49,7 +48,7 @@ all-taken what (m ∷ ms) e xs t = ((xs .0 .values, xs .0 .place .kind), all-tak
 
 -- once overflowed, 12 to the last
 run-spoilt : (g : Gathered) (ms : List Message) → g .assembly .overflowed ≡ true → AllTaken (g .assembly .what) ms
-    → run g ms ≡ record { gathered = g; replies = map overran (added ms) }
+    → run g ms ≡ record { gathered = g; replies = map (λ (s : List ℕ). Reply.number 12) (added ms) }
 unfolding run
 run-spoilt g [] h t = refl
 run-spoilt g (m ∷ ms) h t =
@@ -58,7 +57,7 @@ run-spoilt g (m ∷ ms) h t =
 
 -- all was accepted: ms were parts, and then s was handed over
 abbrev pub ended : Open → Label → List ℕ → List Message → List ℕ → Run
-ended what l d ms s = record { gathered = beside closed d s; replies = map taken ms ++ (reply (wholeOf what l (length s)) ∷ []) }
+ended what l d ms s = record { gathered = beside closed d s; replies = map (λ (m : Message). Reply.taken) ms ++ (reply (wholeOf what l (length s)) ∷ []) }
 
 -- a part overran: the replies, the text that the front of d keeps, and the mark
 pub record Overrun (r : Run) (d s : List ℕ) (as-replied : List Reply) : Type 0 where
@@ -85,7 +84,7 @@ module _ (a : Assembly) (d g : List ℕ) (m : Message) (h : a .overflowed ≡ fa
   -- the last message, with all that was gathered
   pub end-fits : Taken (a .what) (a .begun) true m → length (g ++ textIn (m ∷ [])) ≤ length d
       → run (beside a d g) (m ∷ []) ≡ ended (a .what) (firstLabel a m) d [] (g ++ textIn (m ∷ []))
-  unfolding run flatten
+  unfolding run flatMap
   end-fits t f =
       let z : now ≡ g ++ textIn (m ∷ []) = ap (λ (s : List ℕ). g ++ s) (sym (append-nil (textOf (m .body)))) in
       run-on (beside a d g) m [] _ (step-end a d g m h n t (rw z f)) ∙ ap (ended (a .what) (firstLabel a m) d []) z
@@ -95,7 +94,7 @@ module _ (a : Assembly) (d g : List ℕ) (m : Message) (h : a .overflowed ≡ fa
     pub part-fits : (ms : List Message) → Taken (a .what) (a .begun) false m → length (g ++ textIn (m ∷ rest)) ≤ length d
         → (length (now ++ textIn rest) ≤ length d → run next rest ≡ ended (a .what) (firstLabel a m) d ms (now ++ textIn rest))
         → run (beside a d g) (m ∷ rest) ≡ ended (a .what) (firstLabel a m) d (m ∷ ms) (g ++ textIn (m ∷ rest))
-    unfolding flatten
+    unfolding flatMap
     part-fits ms t f on =
         let z : now ++ textIn rest ≡ g ++ textIn (m ∷ rest) = append-assoc g (textOf (m .body)) (textIn rest) in
         let k : length (now ++ textIn rest) ≤ length d = rw z f in
@@ -110,7 +109,7 @@ module _ (a : Assembly) (d g : List ℕ) (m : Message) (h : a .overflowed ≡ fa
           → ltb (length d - length g) (length (textOf (m .body))) ≡ true → Short (run (beside a d g) (m ∷ rest)) d g (m ∷ rest)
       over-here t ts b =
           let o : length d - length g < length (textOf (m .body)) = ltb-true (length d - length g) (length (textOf (m .body))) b in
-          let r : run (beside a d g) (m ∷ rest) ≡ record { gathered = beside (marked a) d g; replies = map overran (added (m ∷ rest)) } =
+          let r : run (beside a d g) (m ∷ rest) ≡ record { gathered = beside (marked a) d g; replies = map (λ (s : List ℕ). Reply.number 12) (added (m ∷ rest)) } =
           run-on (beside a d g) m rest _ (step-over a d g m h n t f (omega (arith, now-length)))
           ∙ ap (after (Reply.number 12)) (run-spoilt (beside (marked a) d g) rest refl ts) in
           record {
@@ -154,7 +153,7 @@ module _ (a : Assembly) (d g : List ℕ) (m : Message) (h : a .overflowed ≡ fa
 
   -- the last message overruns
   pub end-short : length g ≤ length d → Taken (a .what) (a .begun) true m → length d < length (g ++ textIn (m ∷ [])) → Short (run (beside a d g) (m ∷ [])) d g (m ∷ [])
-  unfolding flatten
+  unfolding flatMap
   end-short f t o =
       let k : length (g ++ (textOf (m .body) ++ [])) ≡ length g + length (textOf (m .body) ++ []) = length-append g (textOf (m .body) ++ []) in
       let z : length (textOf (m .body) ++ []) ≡ length (textOf (m .body)) = ap length (append-nil (textOf (m .body))) in
@@ -170,7 +169,7 @@ module _ (what : Open) (l : Label) (d : List ℕ) (e : Message) (t : Taken what 
 
   pub runs-short : (g : List ℕ) (ms : List Message) → AllNext what ms → length g ≤ length d → length d < length (g ++ textIn (ms ++ (e ∷ [])))
       → Short (run (beside (going what l (length g)) d g) (ms ++ (e ∷ []))) d g (ms ++ (e ∷ []))
-  unfolding flatten
+  unfolding flatMap
   runs-short g [] xs f o = end-short (going what l (length g)) d g e refl refl f t o
   runs-short g (m ∷ ms) xs f o =
       part-short (going what l (length g)) d g m refl refl (ms ++ (e ∷ [])) f (xs .0) (all-taken what ms e (xs .1) t)

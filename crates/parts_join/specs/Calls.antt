@@ -1,15 +1,10 @@
 -- Calls of `join` one after another, as wire's `specs/Calls.antt` has them.
 use mathlib.Core.List.{List, [], _∷_, _++_, map}
 use Prim.Native.Nat.{ℕ, _-_}
-use lib.Dec.{ltb}
-use lib.ListN.{length}
-use Rattle.wire.specs.Bytes.{if}
-use Rattle.wire.specs.Calls.{Done, answersFrom, recordAfter}
+use lib.{Dec.ltb, ListN.length}
+use Rattle.wire.specs.{Bytes.if, Calls.Done, Calls.answersFrom, Calls.recordAfter}
 use Rattle.sedna.specs.Message.{Message}
-use Rattle.parts_join.specs.declared.Assembly.{Assembly}
-use Rattle.parts_join.specs.declared.Joined.{Joined}
-use Rattle.parts_join.specs.declared.Open.{Open}
-use Rattle.parts_join.specs.Answers.{Reply, reply}
+use Rattle.parts_join.specs.{declared.Assembly.Assembly, declared.Joined.Joined, declared.Open.Open, Answers.Reply, Answers.reply}
 use Rattle.parts_join.specs.Joining.{opened, joined, bufferAfter}
 
 -- what the caller keeps: the record, and the buffer beside it
@@ -38,13 +33,10 @@ runOf call g calls = record { gathered = recordAfter call g calls; replies = ans
 unfoldable pub run : Gathered → List Message → Run
 run = runOf joinCall
 
-abbrev pub overran : List ℕ → Reply
-overran t = Reply.number 12
-
 -- the answers to messages that add these texts, where they do not fit the room: "A part that would overrun gets 12 ...; further parts and the end get 12 too"
 abbrev pub shortReplies : ℕ → List (List ℕ) → List Reply
 shortReplies room [] = []
-shortReplies room (t ∷ ts) = if (ltb room (length t)) (map overran (t ∷ ts)) (Reply.taken ∷ shortReplies (room - length t) ts)
+shortReplies room (t ∷ ts) = if (ltb room (length t)) (map (λ (s : List ℕ). Reply.number 12) (t ∷ ts)) (Reply.taken ∷ shortReplies (room - length t) ts)
 
 -- the texts before the one that would overrun the room
 abbrev pub shortText : ℕ → List (List ℕ) → List ℕ

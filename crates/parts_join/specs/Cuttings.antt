@@ -1,16 +1,11 @@
 -- "Joining accepts every cutting, empty parts included": the messages of a cutting, whoever made it, and what joining them must answer and leave.
-use mathlib.Core.Bool.{true}
-use mathlib.Core.List.{List, [], _∷_, _++_, map, flatten}
-use mathlib.Core.Path.{_≡_}
+use mathlib.Core.{Bool.true, List.List, List.[], List._∷_, List._++_, List.map, List.flatten, Path._≡_}
 use Prim.Native.Nat.{ℕ, _≤_, _<_}
 use lib.ListN.{length, take, drop}
 use Rattle.wire.specs.Every.{Every}
-use Rattle.sedna.specs.Allowed.{allowed}
-use Rattle.sedna.specs.Message.{Url, Body, Message, message}
+use Rattle.sedna.specs.{Allowed.allowed, Message.Url, Message.Body, Message.Message, Message.message}
 use Rattle.sedna.specs.Names.{Execute, ExecuteLong, LongQueryEnd, ItemPart, ItemStart, ItemEnd, ResultEnd}
-use Rattle.parts_join.specs.declared.Open.{Open}
-use Rattle.parts_join.specs.Answers.{Reply}
-use Rattle.parts_join.specs.Calls.{Run, openedWith, run, shortReplies, shortText}
+use Rattle.parts_join.specs.{declared.Open.Open, Answers.Reply, Calls.Run, Calls.openedWith, Calls.run, Calls.shortReplies, Calls.shortText}
 use Rattle.parts_join.specs.Joining.{closed}
 
 -- a statement's part
@@ -96,13 +91,10 @@ whole c = flatten (texts c)
 abbrev pub calls : Cutting → List ℕ → Run
 calls c d = run (openedWith (opening c) d) (messages c)
 
-abbrev pub taken : Message → Reply
-taken m = Reply.taken
-
 -- what is left and answered where all was taken, and the text handed over
 abbrev pub returned : Cutting → List ℕ → Run
 returned c d =
-    let replies = map taken (before c) ++ (Reply.whole (values c) (length (whole c)) ∷ []) in
+    let replies = map (λ (m : Message). Reply.taken) (before c) ++ (Reply.whole (values c) (length (whole c)) ∷ []) in
     record { gathered = record { assembly = closed; buffer = fronted d (whole c) }; replies = replies }
 
 pub record Joins (c : Cutting) (d : List ℕ) : Type 0 where

@@ -1,20 +1,11 @@
 -- Document 01, "When joining: 8, 9, 12": what a call answers, the record that it returns, and what it leaves in the lent buffer.
-use mathlib.Core.Bool.{Bool, true, false}
-use mathlib.Core.List.{List}
+use mathlib.Core.{Bool.Bool, Bool.true, Bool.false, List.List, Path._≡_}
 use Prim.Native.Nat.{ℕ, _+_}
-use lib.Dec.{ltb}
-use lib.ListN.{length}
-use Rattle.wire.specs.Bytes.{if, splice}
-use Rattle.wire.specs.Call.{Gives}
-use Rattle.wire.specs.declared.Refusal.{Refusal}
-use Rattle.sedna.specs.Allowed.{allowed}
-use Rattle.sedna.specs.Message.{Message}
-use Rattle.parts_join.specs.declared.Answer.{Answer}
-use Rattle.parts_join.specs.declared.Assembly.{Assembly}
-use Rattle.parts_join.specs.declared.Joined.{Joined}
-use Rattle.parts_join.specs.declared.Label.{Label}
-use Rattle.parts_join.specs.declared.Open.{Open}
-use Rattle.parts_join.specs.declared.Role.{Role}
+use lib.{Dec.ltb, ListN.length, ListN.take}
+use Rattle.wire.specs.{Bytes.if, Bytes.splice, Call.Gives, declared.Refusal.Refusal}
+use Rattle.sedna.specs.{Allowed.allowed, Message.Message}
+use Rattle.parts_join.specs.{declared.Answer.Answer, declared.Assembly.Assembly, declared.Joined.Joined, declared.Label.Label, declared.Open.Open}
+use Rattle.parts_join.specs.{declared.Role.Role, Answers.reply, Answers.bytesHanded}
 use Rattle.parts_join.specs.Roles.{roleOf, takes, inOrder, ends, textOf, label, labelOf}
 
 -- "Opening, a call of its own for a statement, an item up to 3.0 or one of 4.0, drops what an earlier one held, spoilt or unfinished"
@@ -84,3 +75,8 @@ bufferAfter a d m = if (isAccepted (joined a (length d) m .answer)) (splice d (a
 -- the contract of `join`, for a message m
 abbrev pub JoinGives : Assembly → List ℕ → Message → Joined → List ℕ → Type 0
 JoinGives a d m = Gives (joined a (length d) m) (bufferAfter a d m)
+
+-- the contract of a call that hands over what an answer tells: the front part of the buffer, where that stands, so no copy
+pub record Hands (answer : Answer) (buffer : List ℕ) (at : ℕ × ℕ) (part : List ℕ) (there : ℕ × ℕ) : Type 0 where
+  pub bytes : part ≡ take (bytesHanded (reply answer)) buffer
+  pub place : there ≡ at

@@ -1,19 +1,11 @@
 -- Joining over any list of messages offered after an opening: what each is answered, by the cuttings alone. No role is named here, and no field of the record.
-use mathlib.Core.Bool.{Bool, true, false}
-use mathlib.Core.List.{List, [], _∷_, _++_, map, flatten}
-use mathlib.Core.Path.{_≡_}
+use mathlib.Core.{Bool.Bool, Bool.true, Bool.false, List.List, List.[], List._∷_, List._++_, List.flatMap, Path._≡_}
 use Prim.Native.Nat.{ℕ, _≤_, _<_}
-use lib.Dec.{eqb}
-use lib.ListN.{length}
-use Rattle.wire.specs.Bytes.{if}
-use Rattle.wire.specs.Calls.{Done, recordAfter, keptAfter, AllRight}
-use Rattle.sedna.specs.Allowed.{allowed}
-use Rattle.sedna.specs.Message.{Message}
-use Rattle.parts_join.specs.declared.Open.{Open}
-use Rattle.parts_join.specs.Answers.{Reply}
-use Rattle.parts_join.specs.Calls.{Gathered, openedWith, joinCall}
-use Rattle.parts_join.specs.Cuttings.{Cutting, messages, opening, values, fronted, whole}
-use Rattle.parts_join.specs.Roles.{textOf}
+use lib.{Dec.eqb, ListN.length}
+use Rattle.wire.specs.{Bytes.if, Calls.Done, Calls.recordAfter, Calls.keptAfter, Calls.AllRight}
+use Rattle.sedna.specs.{Allowed.allowed, Message.Message}
+use Rattle.parts_join.specs.{declared.Open.Open, Answers.Reply, Calls.Gathered, Calls.openedWith, Calls.joinCall}
+use Rattle.parts_join.specs.{Cuttings.Cutting, Cuttings.messages, Cuttings.opening, Cuttings.values, Cuttings.fronted, Cuttings.whole, Roles.textOf}
 
 -- the messages of a cutting for that opening
 pub record Cut (what : Open) (ms : List Message) : Type 0 where
@@ -31,7 +23,7 @@ PartOf what m = (front : List Message) × Begun what (front ++ (m ∷ []))
 
 -- the text that messages add, which `Joins` holds to the cuttings' texts
 abbrev pub textIn : List Message → List ℕ
-textIn ms = flatten (map (λ (m : Message). textOf (m .body)) ms)
+textIn = flatMap (λ (m : Message). textOf (m .body))
 
 -- the right answer to a message m, where `now` are the messages accepted since the opening with m behind them; and whether a part has overrun before
 pub data RightReply (what : Open) (room : ℕ) (m : Message) (now : List Message) : Bool → Reply → Type 0 where

@@ -1,15 +1,10 @@
 -- What a refusal leaves.
-use mathlib.Core.Bool.{true}
-use mathlib.Core.List.{List}
-use mathlib.Core.Logic.{_⊎_}
-use mathlib.Core.Path.{_≡_}
+use mathlib.Core.{Bool.true, List.List, Logic._⊎_, Path._≡_}
 use Prim.Native.Nat.{ℕ}
-use lib.Dec.{eqb}
-use lib.ListN.{length}
+use lib.{Dec.eqb, ListN.length}
 use Rattle.wire.specs.Bytes.{if}
 use Rattle.sedna.specs.Message.{Message}
-use Rattle.parts_join.specs.declared.Assembly.{Assembly}
-use Rattle.parts_join.specs.Joining.{joined, bufferAfter}
+use Rattle.parts_join.specs.{declared.Assembly.Assembly, Joining.joined, Joining.bufferAfter}
 
 -- the record with the mark, and nothing else changed
 abbrev pub spoilt : Assembly → Assembly

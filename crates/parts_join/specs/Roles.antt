@@ -1,15 +1,12 @@
 -- What a message is to a gathering, by document 01's "Cutting and joining" and the parts of its grammar.
-use mathlib.Core.Bool.{Bool, true, false, not}
-use mathlib.Core.List.{List, []}
+use mathlib.Core.{Bool.Bool, Bool.true, Bool.false, Bool.not, List.List, List.[]}
 use Prim.Native.Nat.{ℕ}
 use lib.Dec.{eqb}
 use Rattle.wire.specs.Bytes.{if}
 use Rattle.sedna.specs.Message.{Body, Message}
 use Rattle.sedna.specs.Names.{Execute, ExecuteLong, LongQueryEnd, ItemPart, ItemStart, ItemEnd, ResultEnd}
 use Rattle.sedna.specs.Table.{findOf, shaped}
-use Rattle.parts_join.specs.declared.Label.{Label}
-use Rattle.parts_join.specs.declared.Open.{Open}
-use Rattle.parts_join.specs.declared.Role.{Role}
+use Rattle.parts_join.specs.{declared.Label.Label, declared.Open.Open, declared.Role.Role}
 
 -- "Execute, or ExecuteLong+ LongQueryEnd"; "Execute is sole part and end at once"
 abbrev pub statementRole : ℕ → Role

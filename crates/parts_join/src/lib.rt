@@ -4,14 +4,15 @@
 ghost use mathlib.Core.Path.{_≡_};
 ghost use mathlib.Core.List.{List};
 ghost use Prim.Native.Nat.{ℕ, _+_, _<_, _^_};
-ghost use lib.ListN.{length, take};
+ghost use lib.ListN.{length};
 ghost use Rattle.wire.specs.Bytes.{if};
 ghost use Rattle.sedna.specs.Message.{message};
 ghost use Rattle.sedna_read.specs.Meaning.{bodyIn};
 ghost use Rattle.parts_join.specs.declared.Open.the-variants as gathering;
 ghost use Rattle.parts_join.specs.Answers.{reply, bytesHanded};
 ghost use Rattle.parts_join.specs.Roles.{textOf};
-ghost use Rattle.parts_join.specs.Joining.{opened, closed, refused, marked, grown, wholeOf, accepted, fitted, joinedAs, joined, isAccepted, JoinGives};
+ghost use Rattle.parts_join.specs.Joining.{opened, closed, refused, marked, grown, wholeOf, accepted, fitted, joinedAs, joined};
+ghost use Rattle.parts_join.specs.Joining.{isAccepted, JoinGives, Hands};
 use body::allowed_in;
 use body::label_in;
 use body::text_in;
@@ -311,7 +312,7 @@ fn bytes_handed(answer: Answer) -> usize
 // that nothing is changed. Where the buffer is shorter than that, which the one that the answer was
 // given for never is, all of it.
 pub fn handed<'a>(buffer: &'a [u8], answer: Answer) -> &'a [u8]
-    ensures { λ r. ⌜ (now r ≡ take (bytesHanded (reply answer)) (now (buffer .entry))) × (r .ptr ≡ buffer .entry .ptr) ⌝ }
+    ensures { λ r. ⌜ Hands answer (now (buffer .entry)) (buffer .entry .ptr) (now r) (r .ptr) ⌝ }
 {
     let len = bytes_handed(answer);
     if len <= buffer.len() {

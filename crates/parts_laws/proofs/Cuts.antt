@@ -1,6 +1,6 @@
 -- A cut's messages are published, and in their order they are a statement's text, or an item, of the grammar.
 use mathlib.Core.Bool.{Bool, true, false}
-use mathlib.Core.List.{List, [], _∷_, _++_, map, List·Memᴰ, List·Memᴰ·head, List·Memᴰ·tail}
+use mathlib.Core.List.{List, [], _∷_, _++_, map, flatMap, List·Memᴰ, List·Memᴰ·head, List·Memᴰ·tail}
 use mathlib.Core.Path.{_≡_, refl, sym, _∙_, ap}
 use Prim.Native.Nat.{ℕ, zero, suc, _≤_, _<_}
 use native.Mathlib.Omega.{arith}
@@ -19,7 +19,7 @@ use Rattle.sedna_laws.specs.Pieces.{Bounded}
 use Rattle.sedna_laws.proofs.Bytes.{bytes-front, bytes-behind}
 use Rattle.grammar.specs.Sent.{Sent, Version, from, upTo}
 use Rattle.grammar.specs.Grammar.{plus, Request, execute, execute-long, Within, within-part, Item, parts, started}
-use Rattle.grammar.specs.Layout.{one, each, flatRequest, flatWithin, flatItem}
+use Rattle.grammar.specs.Layout.{one, flatRequest, flatWithin, flatItem}
 use Rattle.session_laws.proofs.Published.{published-sent}
 use Rattle.parts_cut.specs.Cut.{statementRoom, partRoom, startRoom, piecesUpTo, pieces, cutStatement, itemParts, cutItem, cutTypedItem}
 use Rattle.wire.specs.Every.{Every}
@@ -80,8 +80,8 @@ module _ {k : ℕ} (P : List ℕ → Type 0) (can : (piece : List ℕ) → P pie
   sents (piece ∷ l) h = can piece (h .0) ∷ sents l (h .1)
 
 module _ {k : ℕ} (P : List ℕ → Type 0) (body : List ℕ → Body) (can : (piece : List ℕ) → P piece → Sent k) (is : (piece : List ℕ) (h : P piece) → can piece h .body ≡ body piece) where
-  sents-written : (l : List (List ℕ)) (h : Every P l) → each (one {k = k}) (sents P can l h) ≡ map (λ (piece : List ℕ). message k (body piece)) l
-  unfolding sents
+  sents-written : (l : List (List ℕ)) (h : Every P l) → flatMap (one {k = k}) (sents P can l h) ≡ map (λ (piece : List ℕ). message k (body piece)) l
+  unfolding sents flatMap
   sents-written [] h = refl
   sents-written (piece ∷ l) h = λ i. message k (is piece (h .0) i) ∷ sents-written l (h .1) i
 
@@ -181,7 +181,8 @@ typed-item-cut-published class kind url t ok are fits =
     (can-start class kind url t ok are fits, parts-published (drop (startRoom url) t) (dropped-bytes (startRoom url) t (text-bytes class kind url t are)))
 
 -- ItemParts behind an item's first message
-within : (v : Version) (l : List (List ℕ)) → Every (Short partRoom) l → (w : List (Within v)) × (each flatWithin w ≡ map (λ (piece : List ℕ). message M.ItemPart (Body.text piece)) l)
+within : (v : Version) (l : List (List ℕ)) → Every (Short partRoom) l → (w : List (Within v)) × (flatMap flatWithin w ≡ map (λ (piece : List ℕ). message M.ItemPart (Body.text piece)) l)
+unfolding flatMap
 within v [] h = ([], refl)
 within v (piece ∷ l) h =
     let rest = within v l (h .1) in

@@ -35,7 +35,7 @@ use Rattle.parts_cut.proofs.Counts.{statement-counted, item-counted, typed-item
 use Rattle.parts_join.specs.Answers.{Reply}
 use Rattle.parts_join.specs.Calls.{Gathered, openedWith, joinCall, Run, runOf, run, shortReplies, shortText}
 use Rattle.parts_join.specs.Cuttings as cuttings
-use Rattle.parts_join.specs.Cuttings.{Ending, ending, before, last, fronted, whole, calls, taken}
+use Rattle.parts_join.specs.Cuttings.{Ending, ending, before, last, fronted, whole, calls}
 use Rattle.parts_join.specs.Joining.{closed}
 use Rattle.parts_join.proofs.Cuttings.{texts-added}
 use Rattle.parts_join.proofs.Runs.{added, after}
@@ -145,7 +145,7 @@ module _ (u : Uncut) (laid : Laid u) (outs : ℕ → List ℕ) (room : Roomy u o
       (subst (λ (n : ℕ). AllRead (sender u) (partsBytes u outs 0 n) (cut u)) (laid .counted) (parts-read (cut u) 0 refl (laid .parts)))
       (messages-read (sender u) (outs (count u)) (end u) (laid .ends) (laid .room outs room))
 
-map-taken : (ms : List Message) → map taken ms ≡ replicate (length ms) Reply.taken
+map-taken : (ms : List Message) → map (λ (m : Message). Reply.taken) ms ≡ replicate (length ms) Reply.taken
 map-taken [] = refl
 map-taken (m ∷ ms) = ap (λ (xs : List Reply). Reply.taken ∷ xs) (map-taken ms)
 
@@ -166,7 +166,7 @@ module _ (u : Uncut) (outs : ℕ → List ℕ) (d : List ℕ) (reads : AllRead (
         length-append (before (r .cutting)) (last (r .cutting) ∷ []),
       )
 
-  all-taken : map taken (before (r .cutting)) ≡ replicate (length (sent u outs) - 1) Reply.taken
+  all-taken : map (λ (m : Message). Reply.taken) (before (r .cutting)) ≡ replicate (length (sent u outs) - 1) Reply.taken
   all-taken = map-taken (before (r .cutting)) ∙ ap (λ (n : ℕ). replicate n Reply.taken) but-one
 
   fit : length (text u) ≤ length d → length (whole (r .cutting)) ≤ length d

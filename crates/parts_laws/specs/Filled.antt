@@ -1,9 +1,7 @@
 -- A cut fills each message before it starts the next: "parts of 10,234 with the rest … last".
-use mathlib.Core.List.{List, [], _∷_}
-use mathlib.Core.Path.{_≡_}
+use mathlib.Core.{List.List, List.[], List._∷_, Path._≡_}
 use lib.ListN.{length}
-use Rattle.sedna.specs.Encode.{bodyBytes}
-use Rattle.sedna.specs.Message.{Message}
+use Rattle.sedna.specs.{Encode.bodyBytes, Message.Message}
 
 -- every message but the last has a body of 10,240 bytes
 abbrev pub Filled : List Message → Type 0

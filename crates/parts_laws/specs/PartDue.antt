@@ -1,14 +1,9 @@
 -- Document 01, "When writing or cutting: 2, 8, 11, 14, 10": what writing part k of a cut must answer and leave, by the cut and the encodings.
-use mathlib.Core.List.{List, _++_}
-use mathlib.Core.Option.{some}
-use mathlib.Core.Path.{_≡_}
+use mathlib.Core.{List.List, List._++_, Option.some, Path._≡_}
 use Prim.Native.Nat.{ℕ, _≤_, _<_}
 use lib.ListN.{length, drop, getElem?}
-use Rattle.wire.specs.declared.Refusal.{Refusal}
-use Rattle.wire.specs.Refusals.{numberOf}
-use Rattle.sedna.specs.Encode.{encode}
-use Rattle.sedna.specs.Message.{Message}
-use Rattle.wire.specs.declared.Counted.{Counted}
+use Rattle.wire.specs.{declared.Refusal.Refusal, Refusals.numberOf, declared.Counted.Counted}
+use Rattle.sedna.specs.{Encode.encode, Message.Message}
 use Rattle.parts_laws.specs.ThroughBytes.{Uncut, cut, Allowed, Fits}
 
 -- the answer, and the lent output then

@@ -1,11 +1,9 @@
 -- A cut that is joined again: its messages are a cutting of the text, so joining them hands the text over.
-use mathlib.Core.List.{List}
-use mathlib.Core.Path.{_≡_}
+use mathlib.Core.{List.List, Path._≡_}
 use Prim.Native.Nat.{ℕ, _≤_}
 use lib.ListN.{length}
 use Rattle.sedna.specs.Message.{Url, Message}
-use Rattle.parts_join.specs.declared.Open.{Open}
-use Rattle.parts_join.specs.Cuttings.{Cutting, messages, opening, values, whole, Joins}
+use Rattle.parts_join.specs.{declared.Open.Open, Cuttings.Cutting, Cuttings.messages, Cuttings.opening, Cuttings.values, Cuttings.whole, Cuttings.Joins}
 
 -- "(u above 10,227: 11)"
 abbrev pub UrlFits : Url → Type 0

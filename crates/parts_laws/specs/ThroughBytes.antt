@@ -1,33 +1,18 @@
 -- "Cutting a statement or an item and joining it returns its bytes, where they fit the lent buffer", through bytes: every part is written into
 -- lent output, as `parts_cut::write_.._part` leaves it, read from there by `sedna_read::read`, and joined by `parts_join::join` at the places read.
-use mathlib.Core.Bool.{Bool, true}
-use mathlib.Core.List.{List, [], _∷_, _++_, map}
-use mathlib.Core.Option.{some}
-use mathlib.Core.Path.{_≡_}
+use mathlib.Core.{Bool.Bool, Bool.true, List.List, List.[], List._∷_, List._++_, List.map, Option.some, Path._≡_}
 use Prim.Native.Nat.{ℕ, zero, suc, _-_, _≤_, _<_}
-use lib.Dec.{leb}
-use lib.ListN.{length, take, getElem?, replicate}
-use Rattle.wire.specs.Bytes.{IsBytes}
-use Rattle.wire.specs.Call.{outputAfter}
-use Rattle.wire.specs.Calls.{Done}
-use Rattle.wire.specs.Refusals.{numberOf}
-use Rattle.sedna.specs.declared.Side.{Side}
-use Rattle.sedna.specs.Allowed.{formatAllowed, allowed}
-use Rattle.sedna.specs.Encode.{encode}
-use Rattle.sedna.specs.Message.{Url, Body, Message}
-use Rattle.sedna_read.specs.Meaning.{meaning}
-use Rattle.sedna_read.specs.Places.{located}
-use Rattle.sedna_read.specs.Reading.{Answer, reading}
+use lib.{Dec.leb, ListN.length, ListN.take, ListN.getElem?, ListN.replicate}
+use Rattle.wire.specs.{Bytes.IsBytes, Call.outputAfter, Calls.Done, Refusals.numberOf}
+use Rattle.sedna.specs.{declared.Side.Side, Allowed.formatAllowed, Allowed.allowed, Encode.encode, Message.Url, Message.Body, Message.Message}
+use Rattle.sedna_read.specs.{Meaning.meaning, Places.located, Reading.Answer, Reading.reading}
 use Rattle.sedna_write.specs.Writing.{written}
 use Rattle.sedna_laws.specs.Pieces.{Bounded}
 use Rattle.parts_cut.specs.Cut.{partRoom, startRoom, cutStatement, cutItem, cutTypedItem}
 use Rattle.parts_cut.specs.Part.{statementParts, itemPartsFrom, CutPart, cutPart}
-use Rattle.parts_join.specs.declared.Open.{Open}
-use Rattle.parts_join.specs.Answers.{Reply}
+use Rattle.parts_join.specs.{declared.Open.Open, Answers.Reply}
 use Rattle.parts_join.specs.Calls.{Gathered, openedWith, joinCall, Run, runOf, shortReplies, shortText}
-use Rattle.parts_join.specs.Cuttings.{Ending, ending, fronted}
-use Rattle.parts_join.specs.Joining.{closed}
-use Rattle.parts_join.specs.Roles.{textOf}
+use Rattle.parts_join.specs.{Cuttings.Ending, Cuttings.ending, Cuttings.fronted, Joining.closed, Roles.textOf}
 use Rattle.parts_laws.specs.Rejoined.{UrlFits}
 
 -- what is cut: a statement with its format; an item up to 3.0; one of 4.0 with class, type and URL or none. An item's end is sent behind its parts

@@ -10,12 +10,11 @@ use lib.Seq.{length-take-le, take-append-seam, drop-append-seam, getD-append-add
 use borrow.Author.Tests.{le-ltb, eqb-true, ltb-false}
 use Rattle.wire.specs.Bytes.{IsBytes, if}
 use Rattle.wire.specs.Every.{Every}
-use Rattle.sedna.specs.declared.Side.{Side}
-use Rattle.sedna.specs.declared.Side.the-variants.{Client, Server}
+use Rattle.sedna.specs.{declared.Side.Side, declared.Side.the-variants.Client, declared.Side.the-variants.Server, Kinds.sideNumber}
 use Rattle.wire.proofs.Branches.{apart, either}
 use Rattle.records.specs.declared.Head.{Head}
 use Rattle.records.specs.declared.Head.the-variants as head
-use Rattle.records.specs.Format.{littleBytes, kindOf, recordBytes, transcript, Sound, NoRecord, Stops, Format}
+use Rattle.records.specs.Format.{littleBytes, recordBytes, transcript, Sound, NoRecord, Stops, Format}
 use Rattle.records.specs.Record.{little, sent, headOf, Record, recordOf, Front, behind, front, Records, fromFront, recordsUpTo, records}
 use Rattle.records.proofs.Runs.{shorter, records-front}
 
@@ -25,7 +24,7 @@ pub head-six : (a b c d e f : ℕ) (s : List ℕ)
 unfolding headOf
 head-six a b c d e f s = rw (le-ltb (length (a ∷ b ∷ c ∷ d ∷ e ∷ f ∷ s)) 6 (omega arith))
 
-kind-sent : (side : Side) (n : ℕ) → sent (little (littleBytes 2 (kindOf side))) n ≡ head.Record side n
+kind-sent : (side : Side) (n : ℕ) → sent (little (littleBytes 2 (sideNumber side))) n ≡ head.Record side n
 kind-sent Client n = refl
 kind-sent Server n = refl
 
@@ -40,7 +39,7 @@ front-written r rest h =
     let n = length p in
     let z = little-back n h in
     rw (
-      head-six (n % 256) (n / 256 % 256) (n / 256 / 256 % 256) (n / 256 / 256 / 256 % 256) (kindOf (r .side) % 256) (kindOf (r .side) / 256 % 256) (p ++ rest),
+      head-six (n % 256) (n / 256 % 256) (n / 256 / 256 % 256) (n / 256 / 256 / 256 % 256) (sideNumber (r .side) % 256) (sideNumber (r .side) / 256 % 256) (p ++ rest),
       z,
       le-ltb 10248 n h,
       kind-sent (r .side) n,
@@ -90,15 +89,15 @@ module _ (a b c d e f : ℕ) (s : List ℕ) (h : IsBytes (a ∷ b ∷ c ∷ d �
   two = little-bytes (e ∷ f ∷ []) s (λ i. h (suc (suc (suc (suc i)))))
 
   -- a payload of n bytes
-  payload-back : (side : Side) (n : ℕ) → code ≡ kindOf side → len ≡ n → n ≤ 10248 → behind s (head.Record side n) ≡ Front.sound r rest → Back
+  payload-back : (side : Side) (n : ℕ) → code ≡ sideNumber side → len ≡ n → n ≤ 10248 → behind s (head.Record side n) ≡ Front.sound r rest → Back
   payload-back side n k l m p =
       either (ltb (length s) n) _ _ p (λ cut q. apart (cc)) λ whole q.
       let x : recordOf side (take n s) ≡ r = cc in
       let y : drop n s ≡ rest = cc in
       let z = length-take-le n s (ltb-false (length s) n whole) in
       let all : recordBytes (recordOf side (take n s)) ++ drop n s ≡ a ∷ b ∷ c ∷ d ∷ e ∷ f ∷ s =
-      ap (λ (i : ℕ). littleBytes 4 i ++ (littleBytes 2 (kindOf side) ++ take n s) ++ drop n s) (z ∙ sym l)
-      ∙ ap (λ (l : List ℕ). l ++ (littleBytes 2 (kindOf side) ++ take n s) ++ drop n s) four
+      ap (λ (i : ℕ). littleBytes 4 i ++ (littleBytes 2 (sideNumber side) ++ take n s) ++ drop n s) (z ∙ sym l)
+      ∙ ap (λ (l : List ℕ). l ++ (littleBytes 2 (sideNumber side) ++ take n s) ++ drop n s) four
       ∙ ap (λ (l : List ℕ). a ∷ b ∷ c ∷ d ∷ (l ++ take n s ++ drop n s)) (ap (littleBytes 2) (sym k) ∙ two)
       ∙ ap (λ (l : List ℕ). a ∷ b ∷ c ∷ d ∷ e ∷ f ∷ l) (take-append-drop n s) in
       rw (← x, ← y) (sym all, omega arith)

@@ -1,12 +1,9 @@
 -- The same sentence of document 01 written out, with no reader in it; and what it is for `records` to be right.
-use mathlib.Core.Bool.{true, false}
-use mathlib.Core.List.{List, [], _∷_, _++_, flatMap}
-use mathlib.Core.Path.{_≡_}
+use mathlib.Core.{Bool.true, Bool.false, List.List, List.[], List._∷_, List._++_, List.flatMap, Path._≡_}
 use Prim.Native.Nat.{ℕ, zero, suc, _/_, _%_, _≤_, _<_}
 use lib.ListN.{length}
-use Rattle.wire.specs.Bytes.{IsBytes}
-use Rattle.wire.specs.Every.{Every}
-use Rattle.sedna.specs.declared.Side.{Side}
+use Rattle.wire.specs.{Bytes.IsBytes, Every.Every}
+use Rattle.sedna.specs.Kinds.{sideNumber}
 use Rattle.records.specs.Record.{Record, Records, records}
 
 -- a number in so many bytes, "little-endian"
@@ -14,14 +11,9 @@ abbrev pub littleBytes : ℕ → ℕ → List ℕ
 littleBytes zero n = []
 littleBytes (suc k) n = n % 256 ∷ littleBytes k (n / 256)
 
--- "1 client, 2 server"
-abbrev pub kindOf : Side → ℕ
-kindOf Side.Client = 1
-kindOf Side.Server = 2
-
--- "payload length (four bytes, little-endian, ...), kind (two bytes, little-endian, ...), payload"
+-- "payload length (four bytes, little-endian, ...), kind (two bytes, little-endian, 1 client, 2 server), payload"
 abbrev pub recordBytes : Record → List ℕ
-recordBytes r = littleBytes 4 (length (r .payload)) ++ (littleBytes 2 (kindOf (r .side)) ++ r .payload)
+recordBytes r = littleBytes 4 (length (r .payload)) ++ (littleBytes 2 (sideNumber (r .side)) ++ r .payload)
 
 -- records one behind the other
 abbrev pub transcript : List Record → List ℕ

@@ -1,11 +1,8 @@
 -- Where a record stands in a transcript.
-use mathlib.Core.List.{List}
-use mathlib.Core.Path.{_≡_}
+use mathlib.Core.{List.List, Path._≡_}
 use Prim.Native.Nat.{ℕ, _+_, _≤_}
 use lib.ListN.{length, take, drop}
-use Rattle.records.specs.declared.Head.{Head}
-use Rattle.records.specs.declared.Next.{Next}
-use Rattle.records.specs.Record.{headOf, Front}
+use Rattle.records.specs.{declared.Head.Head, declared.Next.Next, Record.headOf, Record.Front}
 
 -- what stands at `at`: the payload of a record, behind six bytes
 abbrev pub located : ℕ → Front → Next

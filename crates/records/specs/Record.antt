@@ -1,10 +1,8 @@
 -- Document 01, "The transcript program": "Standard input holds records: payload length (four bytes, little-endian, at most 10,248), kind (two bytes,
 -- little-endian, 1 client, 2 server), payload, one message."
-use mathlib.Core.Bool.{Bool, true, false}
-use mathlib.Core.List.{List, [], _∷_}
+use mathlib.Core.{Bool.Bool, Bool.true, Bool.false, List.List, List.[], List._∷_}
 use Prim.Native.Nat.{ℕ, zero, suc, _+_, _*_}
-use lib.Dec.{ltb, eqb}
-use lib.ListN.{length, take, drop}
+use lib.{Dec.ltb, Dec.eqb, ListN.length, ListN.take, ListN.drop}
 use Rattle.wire.specs.Bytes.{if}
 use Rattle.sedna.specs.declared.Side.{Side}
 use Rattle.records.specs.declared.Head.{Head}

@@ -9,7 +9,7 @@ use Rattle.records.specs.Record.{Front}
 use Rattle.records_printed.specs.declared.CountedLine.the-variants as line
 use Rattle.records_printed.specs.NextLine.{goesOn}
 use Rattle.records_printed.specs.Output.{recordLine, endLine}
-use Rattle.records_printed.specs.Unchanged.{Unchanged}
+use Rattle.records_printed.specs.Unchanged.{Refuses, Unchanged}
 use Rattle.records_printed.proofs.Rooms.{text-refused}
 
 -- a line is refused where its text is
@@ -26,9 +26,10 @@ next-refused s Front.end c e = end-refused c e
 next-refused s Front.damaged c e = end-refused c e
 next-refused s (Front.sound r rest) c e = record-refused _ c e
 
+so-counted : (c : Counted) (x : Refusal) → Refuses c x → c ≡ counted.Refused x
+so-counted c x (Refuses.text e) = e
+so-counted c x (Refuses.line s e) = record-refused s c e
+so-counted c x (Refuses.next s f e) = next-refused s f c e
+
 pub unchanged : Unchanged
-unchanged = record {
-  text = text-refused;
-  line = λ s d at text x e. text-refused d at text x (record-refused s _ e);
-  next = λ s f d text x e. text-refused d 0 text x (next-refused s f _ e);
-}
+unchanged d at text x r = text-refused d at text x (so-counted _ x r)

@@ -1,15 +1,9 @@
 -- Document 01, "The transcript program": what a record is answered, "0 or the refusal; payload bytes after the message count as 7".
 use Prim.Native.Nat.{ℕ}
-use lib.Dec.{ltb}
-use lib.ListN.{length}
-use Rattle.wire.specs.Bytes.{if}
-use Rattle.wire.specs.Refusals.{numberOf}
-use Rattle.wire.specs.declared.Refusal.the-variants.{BytesLeftOver}
-use Rattle.sedna_read.specs.declared.Reading.{Reading}
-use Rattle.sedna_read.specs.Reading.{Answer, reading}
-use Rattle.session.specs.declared.Session.{Session}
-use Rattle.session.specs.declared.Stepped.{Stepped}
-use Rattle.session.specs.Step.{stepped}
+use lib.{Dec.ltb, ListN.length}
+use Rattle.wire.specs.{Bytes.if, Refusals.numberOf, declared.Refusal.the-variants.BytesLeftOver}
+use Rattle.sedna_read.specs.{declared.Reading.Reading, Reading.Answer, Reading.reading}
+use Rattle.session.specs.{declared.Session.Session, declared.Stepped.Stepped, Step.stepped}
 use Rattle.records_printed.specs.declared.Answered.{Answered}
 use Rattle.records.specs.Record.{Record}
 

@@ -1,6 +1,5 @@
 -- "instruction in decimal": what it is for `decimal` to be right.
-use mathlib.Core.List.{List, [], _∷_}
-use mathlib.Core.Path.{_≡_}
+use mathlib.Core.{List.List, List.[], List._∷_, Path._≡_}
 use Prim.Native.Nat.{ℕ, _+_, _-_, _*_, _≤_}
 use Rattle.wire.specs.Every.{Every}
 use Rattle.records_printed.specs.Line.{decimal}

@@ -1,6 +1,5 @@
 -- Document 01, "The transcript program": its own example, and a few of its words each by an input and what is printed for it.
-use mathlib.Core.List.{List, [], _∷_, _++_, map}
-use mathlib.Core.Path.{_≡_}
+use mathlib.Core.{List.List, List.[], List._∷_, List._++_, List.map, Path._≡_}
 use Prim.Native.Char.{code}
 use Prim.Native.Nat.{ℕ}
 use Prim.Native.String.{String, [] as no-more, _∷_ as _then_}

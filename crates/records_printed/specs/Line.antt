@@ -2,8 +2,7 @@
 -- Text is a list of ASCII codes.
 use mathlib.Core.List.{List, [], _∷_, _++_}
 use Prim.Native.Nat.{ℕ, zero, suc, _+_, _/_, _%_}
-use lib.Dec.{ltb}
-use lib.ListN.{length}
+use lib.{Dec.ltb, ListN.length}
 use Rattle.wire.specs.Bytes.{if, intAt}
 use Rattle.sedna.specs.declared.Side.{Side}
 use Rattle.session.specs.declared.Session.{Session}
@@ -44,6 +43,6 @@ newline = 10
 unfoldable pub line : ℕ → Record → ℕ → List ℕ
 line n r x = decimal n ++ (space ∷ letter (r .side) ∷ space ∷ (instruction (r .payload) ++ (space ∷ (decimal x ++ (newline ∷ [])))))
 
--- its line in a session
+-- with what the session answers it
 abbrev pub lineIn : ℕ → Session → Record → List ℕ
 lineIn n s r = line n r (answered s r .number)

@@ -1,16 +1,10 @@
 -- Document 01, "The transcript program", record by record: what is printed for what was read of one record, and how the program goes on.
-use mathlib.Core.Bool.{true, false}
-use mathlib.Core.List.{List, [], _++_}
-use mathlib.Core.Path.{_≡_}
+use mathlib.Core.{Bool.true, Bool.false, List.List, List.[], List._++_, Path._≡_}
 use Prim.Native.Nat.{ℕ, _+_}
 use Rattle.wire.specs.declared.Counted.{Counted}
 use Rattle.session.specs.declared.Session.{Session}
-use Rattle.records.specs.Places.{reads, unread}
-use Rattle.records.specs.Record.{Front, front, records}
-use Rattle.records_printed.specs.declared.CountedLine.{CountedLine}
-use Rattle.records_printed.specs.Answer.{answered}
-use Rattle.records_printed.specs.Line.{lineIn}
-use Rattle.records_printed.specs.Output.{recordLine, endLine}
+use Rattle.records.specs.{Places.reads, Places.unread, Record.Front, Record.front, Record.records}
+use Rattle.records_printed.specs.{declared.CountedLine.CountedLine, Answer.answered, Line.lineIn, Output.recordLine, Output.endLine}
 use Rattle.records_printed.specs.Transcript.{lastLine, printedOf}
 
 -- line number n: that of the record in front, or the last line

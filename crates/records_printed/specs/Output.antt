@@ -1,10 +1,8 @@
 -- What the functions that write into lent output answer and leave there.
-use mathlib.Core.List.{List}
-use mathlib.Core.Path.{_≡_}
+use mathlib.Core.{List.List, Path._≡_}
 use Prim.Native.Nat.{ℕ, _≤_}
 use lib.ListN.{length}
-use Rattle.wire.specs.Call.{inRoom, putAt, Gives}
-use Rattle.wire.specs.declared.Counted.{Counted}
+use Rattle.wire.specs.{Call.inRoom, Call.putAt, Call.Gives, declared.Counted.Counted}
 use Rattle.session.specs.declared.Session.{Session}
 use Rattle.records_printed.specs.declared.CountedLine.{CountedLine}
 

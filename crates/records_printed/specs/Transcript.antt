@@ -1,16 +1,12 @@
 -- Document 01, "The transcript program": what it prints for a whole input.
-use mathlib.Core.Bool.{Bool, true, false}
-use mathlib.Core.List.{List, [], _∷_, _++_}
+use mathlib.Core.{Bool.Bool, Bool.true, Bool.false, List.List, List.[], List._∷_, List._++_}
 use Prim.Native.Nat.{ℕ, _+_}
-use Rattle.wire.specs.Bytes.{if}
-use Rattle.wire.specs.Calls.{Done, answersFrom, recordAfter}
-use Rattle.session.specs.declared.Session.{Session}
-use Rattle.session.specs.Step.{freshSession, closedOf}
+use Rattle.wire.specs.{Bytes.if, Calls.Done, Calls.answersFrom, Calls.recordAfter}
+use Rattle.session.specs.{declared.Session.Session, Step.freshSession, Step.closedOf}
 use Rattle.records.specs.Record.{Record, Records, records}
-use Rattle.records_printed.specs.Answer.{answered}
-use Rattle.records_printed.specs.Line.{line}
+use Rattle.records_printed.specs.{Answer.answered, Line.line}
 
--- a record as a call on the session
+-- so that the records of a transcript are calls one after another, of which wire's `Calls` tells
 abbrev pub recordCall : Session → Record → Done Session ℕ
 recordCall s r = record { record-after = answered s r .session; answer = answered s r .number }
 

@@ -15,7 +15,7 @@ use Rattle.sedna_read.proofs.Heads.{always}
 use Rattle.session.specs.declared.Session.{Session}
 use Rattle.session.specs.declared.Stepped.{Stepped}
 use Rattle.session.specs.Machine.{moveOf, next, refused}
-use Rattle.session.specs.inner.After.{afterAnswer}
+use Rattle.session.specs.After.{afterAnswer}
 use Rattle.session.proofs.Steps.{put-together, found-move, found-reading}
 use Rattle.sedna_c.specs.declared.sides.Sender.{Sender}
 use Rattle.sedna_c.specs.declared.sides.Sender.the-variants as sender

@@ -1,25 +1,14 @@
 -- The library's answers as numbers, for programs in C and Rust.
 use mathlib.Core.List.{List, [], _∷_, _++_}
 use Prim.Native.Nat.{ℕ, _+_}
-use lib.Dec.{eqb, ltb}
-use lib.ListN.{length, drop}
-use Rattle.wire.specs.Bytes.{if}
-use Rattle.wire.specs.Call.{Gives}
-use Rattle.wire.specs.declared.Place.{Place}
-use Rattle.wire.specs.declared.Refusal.the-variants.{ValueNotAllowed, NoRoom}
+use lib.{Dec.eqb, Dec.ltb, ListN.length, ListN.drop}
+use Rattle.wire.specs.{Bytes.if, Call.Gives, declared.Place.Place, declared.Refusal.the-variants.ValueNotAllowed, declared.Refusal.the-variants.NoRoom}
 use Rattle.answer_c.specs.Codes.{refusalCode, WritesByCode}
-use Rattle.sedna.specs.declared.Side.the-variants.{Client, Server}
-use Rattle.sedna.specs.Encode.{encode}
-use Rattle.sedna.specs.Message.{Message}
-use Rattle.sedna_read.specs.declared.OptionPlace.{OptionPlace}
-use Rattle.sedna_read.specs.declared.Places.{Places}
-use Rattle.sedna_read.specs.declared.Reading.{Reading}
-use Rattle.sedna_read.specs.declared.UrlPlace.{UrlPlace}
-use Rattle.sedna_read.specs.Places.{located}
+use Rattle.sedna.specs.{declared.Side.the-variants.Client, declared.Side.the-variants.Server, Encode.encode, Message.Message}
+use Rattle.sedna_read.specs.{declared.OptionPlace.OptionPlace, declared.Places.Places, declared.Reading.Reading, declared.UrlPlace.UrlPlace, Places.located}
 use Rattle.sedna_read.specs.Reading.{reading}
 use Rattle.sedna_c.specs.declared.sides.Sender.{Sender}
-use Rattle.sedna_write.specs.Pairs.{optionsMessage, optionsWritten}
-use Rattle.sedna_write.specs.Writing.{written}
+use Rattle.sedna_write.specs.{Pairs.optionsMessage, Pairs.optionsWritten, Writing.written}
 
 -- instruction, shape, two numbers, two places, a count, whether there is a URL
 abbrev pub fieldList : ℕ → ℕ → ℕ → ℕ → Place → Place → ℕ → ℕ → List ℕ

@@ -1,20 +1,13 @@
 -- The session for programs in C and Rust: the caller keeps the record in the first two bytes of what it lends.
-use mathlib.Core.List.{List, _∷_}
-use mathlib.Core.Path.{_≡_}
+use mathlib.Core.{List.List, List._∷_, Path._≡_}
 use Prim.Native.Nat.{ℕ}
-use lib.Dec.{ltb}
-use lib.ListN.{length, getD, drop}
-use Rattle.wire.specs.Bytes.{if}
-use Rattle.wire.specs.declared.Refusal.the-variants.{ValueNotAllowed, NoRoom}
+use lib.{Dec.ltb, ListN.length, ListN.getD, ListN.drop}
+use Rattle.wire.specs.{Bytes.if, declared.Refusal.the-variants.ValueNotAllowed, declared.Refusal.the-variants.NoRoom}
 use Rattle.answer_c.specs.Codes.{refusalCode}
 use Rattle.sedna.specs.declared.Side.the-variants.{Client, Server}
 use Rattle.sedna_read.specs.declared.Reading.{Reading}
-use Rattle.session.specs.declared.Session.{Session}
-use Rattle.session.specs.declared.Stepped.{Stepped}
-use Rattle.session.specs.declared.Turn.{Turn}
-use Rattle.session.specs.Step.{freshSession, stepped, closedOf, turnOf}
-use Rattle.sedna_c.specs.declared.sides.Sender.{Sender}
-use Rattle.sedna_c.specs.Codes.{senderOf, readCode, fieldsLeft}
+use Rattle.session.specs.{declared.Session.Session, declared.Stepped.Stepped, declared.Turn.Turn, Step.freshSession, Step.stepped, Step.closedOf, Step.turnOf}
+use Rattle.sedna_c.specs.{declared.sides.Sender.Sender, Codes.senderOf, Codes.readCode, Codes.fieldsLeft}
 
 -- the record in the first two bytes: phase, version
 abbrev pub recordIn : List ℕ → Session
@@ -31,7 +24,7 @@ freshCode d = if (ltb (length d) 2) (refusalCode NoRoom) 0
 abbrev pub freshLeft : List ℕ → List ℕ
 freshLeft d = if (ltb (length d) 2) d (recordPut freshSession d)
 
--- the step of what a sender sent
+-- 8 for a side that is none, ahead of what the step answers
 abbrev pub stepFrom : Session → Sender → List ℕ → Stepped
 stepFrom s Sender.Nobody bytes = record { session = s; answer = Reading.Refused ValueNotAllowed }
 stepFrom s (Sender.Is side) bytes = stepped s side bytes

@@ -59,45 +59,29 @@ fn store_item(fields: &mut [u64], instruction: u32, class: u8, kind: u8, url: Ur
     }
 }
 
-fn store_places(fields: &mut [u64], instruction: u32, places: Places)
-    requires { ⌜ 10 ≤ length (now fields) ⌝ }
-    ensures { λ _. ⌜ now (fields .exit) ≡ fieldsOf instruction places ++ drop 10 (now (fields .entry)) ⌝ }
+fn store_places(out: &mut [u64], i: u32, places: Places)
+    requires { ⌜ 10 ≤ length (now out) ⌝ }
+    ensures { λ _. ⌜ now (out .exit) ≡ fieldsOf i places ++ drop 10 (now (out .entry)) ⌝ }
 {
     let none = Place { start: 0, len: 0 };
     match places {
-        Places::Empty => store(fields, instruction, 0, 0, 0, none, none, 0, 0),
+        Places::Empty => store(out, i, 0, 0, 0, none, none, 0, 0),
         Places::Session {
             major,
             minor,
             user,
             database,
-        } => store(
-            fields,
-            instruction,
-            1,
-            major as u64,
-            minor as u64,
-            user,
-            database,
-            0,
-            0,
-        ),
-        Places::Text(t) => store(fields, instruction, 2, 0, 0, t, none, 0, 0),
-        Places::Statement { format, text } => {
-            store(fields, instruction, 3, format as u64, 0, text, none, 0, 0)
-        }
-        Places::Coded { code, text } => {
-            store(fields, instruction, 4, code as u64, 0, text, none, 0, 0)
-        }
-        Places::Options { pairs, count } => {
-            store(fields, instruction, 5, 0, 0, pairs, none, count as u64, 0)
-        }
+        } => store(out, i, 1, major as u64, minor as u64, user, database, 0, 0),
+        Places::Text(t) => store(out, i, 2, 0, 0, t, none, 0, 0),
+        Places::Statement { format, text } => store(out, i, 3, format as u64, 0, text, none, 0, 0),
+        Places::Coded { code, text } => store(out, i, 4, code as u64, 0, text, none, 0, 0),
+        Places::Options { pairs, count } => store(out, i, 5, 0, 0, pairs, none, count as u64, 0),
         Places::Item {
             class,
             kind,
             url,
             part,
-        } => store_item(fields, instruction, class, kind, url, part),
+        } => store_item(out, i, class, kind, url, part),
     }
 }
 

@@ -1,12 +1,9 @@
 -- Runs of digits as they are read.
-use mathlib.Core.Bool.{Bool}
-use mathlib.Core.List.{List, [], _∷_}
+use mathlib.Core.{Bool.Bool, List.List, List.[], List._∷_}
 use Prim.Native.Nat.{ℕ, _+_, _-_, _*_, _%_}
-use lib.Dec.{eqb, leb}
-use lib.ListN.{length, drop, getD}
+use lib.{Dec.eqb, Dec.leb, ListN.length, ListN.drop, ListN.getD}
 use Rattle.wire.specs.Bytes.{if, between}
-use Rattle.sedna_digits.specs.declared.Run.{Run}
-use Rattle.sedna_digits.specs.Numbers.{number}
+use Rattle.sedna_digits.specs.{declared.Run.Run, Numbers.number}
 
 abbrev pub isDigit : ℕ → Bool
 isDigit = between 48 57
@@ -20,7 +17,7 @@ run (b ∷ s) = if (isDigit b) ((b - 48) ∷ run s) []
 unfoldable pub kept : ℕ → ℕ
 kept n = if (leb n 9223372036854775808) n (9223372036854776000 + n % 400)
 
--- the digits from `at` on
+-- where the digits from `at` on end, and what is kept of their number
 abbrev pub digitsAt : List ℕ → ℕ → Run
 digitsAt s at = record { end = at + length (run (drop at s)); number = kept (number (run (drop at s))) }
 

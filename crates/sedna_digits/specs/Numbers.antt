@@ -1,9 +1,7 @@
 -- Digits and what they mean. No reader is known here.
-use mathlib.Core.Bool.{Bool, true, false}
-use mathlib.Core.List.{List, [], _∷_, map}
+use mathlib.Core.{Bool.Bool, Bool.true, Bool.false, List.List, List.[], List._∷_, List.map}
 use Prim.Native.Nat.{ℕ, _+_, _*_, _^_, _≤_}
-use lib.IntN.{ℤ, pos, negℤ}
-use lib.ListN.{length}
+use lib.{IntN.ℤ, IntN.pos, IntN.negℤ, ListN.length}
 use Rattle.wire.specs.Every.{Every}
 
 -- the number that digits are: each counts by its place

@@ -1,9 +1,7 @@
 -- Document 02, request 1: the calendar, by counting. "A year counts as written, leap days too." No reader is known here.
-use mathlib.Core.Bool.{Bool, true, false}
-use mathlib.Core.List.{List, [], _∷_}
+use mathlib.Core.{Bool.Bool, Bool.true, Bool.false, List.List, List.[], List._∷_}
 use Prim.Native.Nat.{ℕ, zero, suc, _+_, _-_, _%_}
-use lib.Dec.{eqb}
-use lib.ListN.{getD}
+use lib.{Dec.eqb, ListN.getD}
 use Rattle.wire.specs.Bytes.{if}
 
 -- every fourth year, but of the hundreds only every fourth

@@ -1,20 +1,11 @@
 -- Instants as they are read: the fields by their places, 15 over the whole text, then 16.
-use mathlib.Core.Bool.{Bool, true, false}
-use mathlib.Core.List.{List}
+use mathlib.Core.{Bool.Bool, Bool.true, Bool.false, List.List}
 use Prim.Native.Nat.{ℕ, _+_, _-_, _*_, _^_}
-use lib.Dec.{eqb, leb, ltb}
-use lib.IntN.{ℤ, pos, _-ℤ_}
-use lib.ListN.{length, getD}
-use Rattle.wire.specs.Bytes.{if}
-use Rattle.wire.specs.declared.Refusal.the-variants.{NotOfForm, OutOfRange}
-use Rattle.sedna_instant.specs.declared.Dated.{Dated}
-use Rattle.sedna_digits.specs.declared.Run.{Run}
-use Rattle.sedna_instant.specs.declared.fields.Clock.{Clock}
-use Rattle.sedna_instant.specs.declared.fields.Fraction.{Fraction}
-use Rattle.sedna_instant.specs.declared.fields.Year.{Year}
-use Rattle.sedna_instant.specs.declared.fields.ZoneFound.{ZoneFound}
-use Rattle.sedna_instant.specs.Calendar.{monthLength, daysBefore}
-use Rattle.sedna_digits.specs.Digits.{digitsAt, twoDigitsAt}
+use lib.{Dec.eqb, Dec.leb, Dec.ltb, IntN.ℤ, IntN.pos, IntN._-ℤ_, ListN.length, ListN.getD}
+use Rattle.wire.specs.{Bytes.if, declared.Refusal.the-variants.NotOfForm, declared.Refusal.the-variants.OutOfRange}
+use Rattle.sedna_instant.specs.{declared.Dated.Dated, declared.fields.Clock.Clock, declared.fields.Fraction.Fraction, declared.fields.Year.Year}
+use Rattle.sedna_instant.specs.{declared.fields.ZoneFound.ZoneFound, Calendar.monthLength, Calendar.daysBefore}
+use Rattle.sedna_digits.specs.{declared.Run.Run, Digits.digitsAt, Digits.twoDigitsAt}
 
 -- a year whose digits start at `at`: four, or more where the first is not 0
 abbrev pub yearBy : Bool → Bool → ℕ → Run → Year

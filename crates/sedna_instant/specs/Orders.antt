@@ -1,9 +1,7 @@
 -- Document 02, request 1: "Instants are ordered by these alone", the seconds and the nanoseconds.
-use lib.Dec.{ltb}
-use lib.Signed.{ltZ}
+use lib.{Dec.ltb, Signed.ltZ}
 use Rattle.wire.specs.Bytes.{if}
-use Rattle.sedna_instant.specs.declared.Instant.{Instant}
-use Rattle.sedna_instant.specs.declared.Order.{Order}
+use Rattle.sedna_instant.specs.{declared.Instant.Instant, declared.Order.Order}
 
 unfoldable pub ordered : Instant → Instant → Order
 ordered a b =

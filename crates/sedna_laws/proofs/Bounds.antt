@@ -1,5 +1,5 @@
 -- Bounds: what makes an encoding bytes, field by field.
-use mathlib.Core.List.{List, [], _∷_, _++_}
+use mathlib.Core.List.{List, [], _∷_, _++_, flatMap}
 use mathlib.Core.Logic.{_↔_}
 use Prim.Native.Nat.{ℕ, zero, suc, _≤_, _<_}
 use native.Mathlib.Omega.{arith}
@@ -51,14 +51,14 @@ piece-bounds (Piece.number n) h = omega (arith, h 0)
 piece-bounds (Piece.text t) h = bytes-behind (0 ∷ int (length t)) t h
 
 all-bytes : (ps : List Piece) → length (piecesBytes ps) ≤ 10240 → Every InBounds ps → IsBytes (piecesBytes ps)
-unfolding piecesBytes
+unfolding flatMap
 all-bytes [] l h = bytes-none
 all-bytes (p ∷ ps) l h =
     let long = length-append (pieceBytes p) (piecesBytes ps) in
     bytes-append (pieceBytes p) (piecesBytes ps) (piece-bytes p (omega (arith, l, long)) (h .0)) (all-bytes ps (omega (arith, l, long)) (h .1))
 
 all-bounds : (ps : List Piece) → IsBytes (piecesBytes ps) → Every InBounds ps
-unfolding piecesBytes
+unfolding flatMap
 all-bounds [] h = tt
 all-bounds (p ∷ ps) h = (piece-bounds p (bytes-front (pieceBytes p) (piecesBytes ps) h), all-bounds ps (bytes-behind (pieceBytes p) (piecesBytes ps) h))
 

@@ -10,7 +10,6 @@ use lib.ListN.{length, take, drop, length-append, length-map, length-drop, take-
 use lib.Seq.{take-append-seam, drop-append-seam, length-take-le}
 use borrow.Author.Tests.{eq-eqb, eqb-true}
 use Rattle.wire.specs.Bytes.{if}
-use Rattle.wire.specs.Call.{outputAfter}
 use Rattle.wire.specs.declared.Refusal.{Refusal}
 use Rattle.wire.specs.declared.Refusal.the-variants.{UnknownInstruction, ValueNotAllowed}
 use Rattle.sedna.specs.declared.Found.{Found}
@@ -18,16 +17,15 @@ use Rattle.sedna.specs.declared.Found.the-variants.{Known, Unknown}
 use Rattle.sedna.specs.declared.Fit.the-variants as fit
 use Rattle.sedna.specs.declared.Shape.the-variants as shape
 use Rattle.sedna.specs.Allowed.{allowed}
-use Rattle.sedna.specs.Encode.{bodyBytes, pairsBytes, encode}
+use Rattle.sedna.specs.Encode.{bodyBytes, pairsBytes}
 use Rattle.sedna.specs.Message.{Pair, Body, message}
 use Rattle.sedna.specs.Kinds.{sameShape}
 use Rattle.sedna.specs.Table.{findOf, fitOf}
 use Rattle.wire.specs.declared.Counted.the-variants.{Refused}
-use Rattle.sedna_write.specs.Pairs.{sum, given, pairsOf, optionsMessage, optionsWritten}
+use Rattle.sedna_write.specs.Pairs.{sum, given, pairsOf, optionsWritten}
 use Rattle.sedna_write.specs.Writing.{judgementBy, judgement, written}
 use Rattle.sedna_laws.specs.Unwritten.{UnwrittenLists}
 use Rattle.wire.proofs.Branches.{both}
-use Rattle.wire.proofs.Call.{refused-leaves}
 use Rattle.sedna_laws.proofs.Due.{lacking, lacks}
 use Rattle.sedna_laws.proofs.Table.{find-listed, listed-find}
 
@@ -134,12 +132,9 @@ lists-refused room i ids lengths values e r = rw e (back, due-lists room n i)
     back : judgement i shape.Options false n room ≡ Refused r → UnwrittenLists i r
     back q = let x = refused-lists room n i in let z : x .0 ≡ r = cc in subst (UnwrittenLists i) z (x .2)
 
--- always one of the two, and the output is left
-pub lists-left : (out : List ℕ) (i : ℕ) (ids lengths values : List ℕ) → given ids lengths values ≡ false
-    → (r : Refusal) × (optionsWritten (length out) i ids lengths values ≡ Refused r)
-    × (outputAfter (optionsWritten (length out) i ids lengths values) out 0 (encode (optionsMessage i ids lengths values)) ≡ out)
-lists-left out i ids lengths values e =
+-- always one of the two
+pub lists-unwritten : (room i : ℕ) (ids lengths values : List ℕ) → given ids lengths values ≡ false → (r : Refusal) × (optionsWritten room i ids lengths values ≡ Refused r)
+lists-unwritten room i ids lengths values e =
     let n : ℕ = length (pairsBytes (pairsOf ids lengths values)) in
-    let x = refused-lists (length out) n i in
-    let is : optionsWritten (length out) i ids lengths values ≡ Refused (x .0) = ap (λ (b : Bool). judgement i shape.Options b n (length out)) e ∙ x .1 in
-    (x .0, is, refused-leaves _ (x .0) out 0 (encode (optionsMessage i ids lengths values)) is)
+    let x = refused-lists room n i in
+    (x .0, ap (λ (b : Bool). judgement i shape.Options b n room) e ∙ x .1)

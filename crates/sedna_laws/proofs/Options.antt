@@ -1,6 +1,6 @@
 -- Handing out the options of a SetOptions message.
 use mathlib.Core.Path.{_≡_, refl, _∙_, ap, subst}
-use mathlib.Core.List.{List, [], _∷_, _++_, append-assoc}
+use mathlib.Core.List.{List, [], _∷_, _++_, append-assoc, flatMap}
 use Prim.Native.Nat.{ℕ, zero, suc, _+_, _-_, _≤_}
 use native.Mathlib.Omega.{arith}
 use lib.ListN.{length, take, drop, getElem?, length-append}
@@ -23,7 +23,7 @@ use Rattle.sedna_laws.proofs.Parts.{stands-behind, string-behind, body-
 
 -- of the pairs that stand behind `at` bytes, the option number k that is found there is their number k
 option-there : (s : List ℕ) (k : ℕ) (ps : List Pair) (at : ℕ) (rest : List ℕ) → IsBytes (pairsBytes ps) → drop at s ≡ pairsBytes ps ++ rest → optionIn s (optionAt k at (pairsBytes ps)) ≡ getElem? ps k
-unfolding optionAt pairsBytes pairBytes pairField intField string int
+unfolding optionAt flatMap pairBytes pairField intField string int
 option-there s zero [] at rest h e = refl
 option-there s (suc k) [] at rest h e = refl
 option-there s zero (p ∷ ps) at rest h e =

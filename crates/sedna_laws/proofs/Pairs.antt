@@ -1,6 +1,6 @@
 -- The pairs of SetOptions are exact.
 use mathlib.Core.Path.{_≡_, refl}
-use mathlib.Core.List.{List, [], _∷_, _++_, append-assoc}
+use mathlib.Core.List.{List, [], _∷_, _++_, append-assoc, flatMap}
 use Prim.Native.Nat.{ℕ, zero, suc, _≤_}
 use native.Mathlib.Omega.{arith}
 use lib.ListN.{length, length-append}
@@ -29,19 +29,19 @@ pair-back s p rest h e =
 
 -- there are no more pairs than bytes
 pub pairs-count : (ps : List Pair) → length ps ≤ length (pairsBytes ps)
-unfolding pairsBytes pairBytes int
+unfolding flatMap pairBytes int
 pairs-count [] = omega arith
 pairs-count (p ∷ ps) = omega (arith, pairs-count ps, length-append (string (p .value)) (pairsBytes ps))
 
 pub pairs-forth : (ps : List Pair) (n : ℕ) → length ps ≤ n → IsBytes (pairsBytes ps) → pairsField n (pairsBytes ps) ≡ Got.got ps []
-unfolding pairsField pairsBytes pairBytes int
+unfolding pairsField flatMap pairBytes int
 pairs-forth [] zero l h = refl
 pairs-forth [] (suc n) l h = refl
 pairs-forth (p ∷ ps) zero l h = absurd (omega arith)
 pairs-forth (p ∷ ps) (suc n) l h = rw (pair-forth p (pairsBytes ps) h, pairs-forth ps n (omega arith) (bytes-behind (pairBytes p) (pairsBytes ps) h))
 
 pub pairs-back : (n : ℕ) → Back (pairsField n) pairsBytes
-unfolding pairsField pairsBytes
+unfolding pairsField flatMap
 pairs-back zero s ps rest h e = given (λ (ps : List Pair) (l : List ℕ). s ≡ pairsBytes ps ++ l) e refl
 pairs-back (suc n) [] ps rest h e = given (λ (ps : List Pair) (l : List ℕ). [] ≡ pairsBytes ps ++ l) e refl
 pairs-back (suc n) (x ∷ s) ps rest h e =

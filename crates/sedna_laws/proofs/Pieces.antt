@@ -1,6 +1,6 @@
 -- Laws of the fields of a body: their bytes are the encoding's, and the value of one that comes is allowed.
 use mathlib.Core.Bool.{true}
-use mathlib.Core.List.{List, [], _∷_, _++_, append-assoc, append-nil}
+use mathlib.Core.List.{List, [], _∷_, _++_, append-assoc, append-nil, flatMap}
 use mathlib.Core.Path.{_≡_, refl, sym, ap, subst, _∙_}
 use Prim.Native.Nat.{ℕ}
 use lib.Dec.{leb}
@@ -10,17 +10,18 @@ use Rattle.sedna.specs.declared.Shape.the-variants as shape
 use Rattle.sedna.specs.Allowed.{allowed, versionAllowed, formatAllowed, classAllowed, typeAllowed}
 use Rattle.sedna.specs.Encode.{string, urlBytes, pairBytes, pairsBytes, bodyBytes}
 use Rattle.sedna.specs.Message.{Url, Pair, Body, shapeOf}
-use Rattle.sedna_laws.specs.Pieces.{Piece, piecesBytes, pairPieces, piecesOf, Comes}
+use Rattle.sedna_laws.specs.Pieces.{Piece, pieceBytes, piecesBytes, pairPieces, piecesOf, Comes}
 use Rattle.wire.proofs.Branches.{both}
+use Rattle.wire.proofs.Lists.{flatMap-append}
 
 -- the fields are those of the encoding
 pairs-bytes : (ps : List Pair) → piecesBytes (pairPieces ps) ≡ pairsBytes ps
-unfolding piecesBytes pairPieces pairsBytes pairBytes
+unfolding flatMap pairBytes
 pairs-bytes [] = refl
 pairs-bytes (p ∷ ps) = rw (append-assoc, pairs-bytes ps)
 
 pub pieces-bytes : (b : Body) → piecesBytes (piecesOf b) ≡ bodyBytes b
-unfolding piecesBytes bodyBytes urlBytes
+unfolding flatMap bodyBytes urlBytes
 pieces-bytes Body.empty = refl
 pieces-bytes (Body.session major minor user database) = rw (append-nil (string database))
 pieces-bytes (Body.text t) = append-nil (string t)
@@ -29,16 +30,6 @@ pieces-bytes (Body.coded code t) = rw (append-nil (string t))
 pieces-bytes (Body.options pairs) = pairs-bytes pairs
 pieces-bytes (Body.item class kind Url.absent part) = rw (append-nil (string part))
 pieces-bytes (Body.item class kind (Url.present url) part) = rw (append-nil (string part))
-
-pub pieces-append : (a b : List Piece) → piecesBytes (a ++ b) ≡ piecesBytes a ++ piecesBytes b
-unfolding piecesBytes
-pieces-append [] b = refl
-pieces-append (p ∷ a) b = rw (append-assoc, pieces-append a b)
-
-pairs-append : (ps qs : List Pair) → pairPieces (ps ++ qs) ≡ pairPieces ps ++ pairPieces qs
-unfolding pairPieces
-pairs-append [] qs = refl
-pairs-append (p ∷ ps) qs = rw (pairs-append ps qs)
 
 -- a body by its shape
 abbrev pub View : Shape → Body → Type 0
@@ -64,7 +55,7 @@ viewed b e = subst (λ (o : Shape). View o b) e (view b)
 
 -- behind pairs and an id a string comes
 pub value-comes : (ps : List Pair) (id : ℕ) → Comes shape.Options (pairPieces ps ++ Piece.number id ∷ []) (Piece.text [])
-unfolding allowed pairPieces
+unfolding allowed flatMap
 value-comes ps id =
     let last : List Pair = record { id = id; value = [] } ∷ [] in
     record {
@@ -72,13 +63,13 @@ value-comes ps id =
       shaped = refl;
       values = refl;
       behind = [];
-      split = pairs-append ps last
+      split = flatMap-append (λ (p : Pair). Piece.number (p .id) ∷ Piece.text (p .value) ∷ []) ps last
           ∙ sym (append-assoc (pairPieces ps) (Piece.number id ∷ []) (Piece.text [] ∷ []));
     }
 
 pub value-stands : (ps : List Pair) (id : ℕ) (left : List ℕ) → pairsBytes ps ++ (int id ++ left) ≡ piecesBytes (pairPieces ps ++ Piece.number id ∷ []) ++ left
-unfolding piecesBytes
-value-stands ps id left = rw (pieces-append (pairPieces ps) (Piece.number id ∷ []), pairs-bytes ps, append-nil (int id), append-assoc)
+unfolding flatMap
+value-stands ps id left = rw (flatMap-append pieceBytes (pairPieces ps) (Piece.number id ∷ []), pairs-bytes ps, append-nil (int id), append-assoc)
 
 -- the value of a field that comes is allowed
 pub version-comes : (major minor : ℕ) → Comes shape.Session [] (Piece.version major minor) → versionAllowed major minor ≡ true

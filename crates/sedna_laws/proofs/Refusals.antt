@@ -21,7 +21,8 @@ use Rattle.sedna.specs.Message.{Body}
 use Rattle.sedna.specs.Table.{findOf}
 use Rattle.wire.specs.Fields.{Got, Field, goOn, _>>=_, _>>_, required}
 use Rattle.sedna_read.specs.Fields.{byteField, intField, bytesField, stringField, nothingLeft}
-use Rattle.sedna_read.specs.Reading.{sessionFields, textFields, statementFields, codedFields, pairField, pairsField, optionsFields, urlField, itemFields, fieldsOf, bodyField, Heading, headOf, heading, Answer, answered, afterHead, reading}
+use Rattle.sedna_read.specs.Reading.{sessionFields, textFields, statementFields, codedFields, pairField, pairsField, optionsFields, urlField, itemFields}
+use Rattle.sedna_read.specs.Reading.{fieldsOf, bodyField, Heading, headOf, heading, Answer, answered, afterHead, reading}
 
 -- what holds of both branches holds whichever a test takes
 of-both : {A : Type 0} (P : A → Type 0) (t : Bool) (a b : A) → P a → P b → P (if t a b)

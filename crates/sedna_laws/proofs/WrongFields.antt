@@ -1,6 +1,6 @@
 -- A body that is refused with 6 or 8 has a field that is wrong.
 use mathlib.Core.Bool.{Bool, true, false}
-use mathlib.Core.List.{List, [], _∷_, _++_, append-assoc, append-nil}
+use mathlib.Core.List.{List, [], _∷_, _++_, append-assoc, append-nil, flatMap}
 use mathlib.Core.Path.{_≡_, refl, sym, ap, subst, _∙_}
 use Prim.Native.Nat.{ℕ, zero, suc, _≤_}
 use native.Mathlib.Omega.{arith}
@@ -90,7 +90,7 @@ module _ (r : Refusal) (not-cut : ¬ (r ≡ FieldCut)) where
   -- pairs, then an id, then a string that is refused
   pairs-wrong : (n : ℕ) (s : List ℕ) → IsBytes s → pairsField n s ≡ Got.refused r
       → (ps : List Pair) × (id : ℕ) × (left : List ℕ) × (s ≡ pairsBytes ps ++ (int id ++ left)) × IsBytes left × (stringField left ≡ Got.refused r)
-  unfolding pairsField pairField pairsBytes
+  unfolding pairsField pairField flatMap
   pairs-wrong zero s h e = apart (cc)
   pairs-wrong (suc n) [] h e = apart (cc)
   pairs-wrong (suc n) (x ∷ s) h e =
@@ -107,7 +107,7 @@ module _ (r : Refusal) (not-cut : ¬ (r ≡ FieldCut)) where
   -- a URL or a part that is refused, behind the flag
   part-wrong : (class kind : ℕ) → allowed (Body.item class kind Url.absent []) ≡ true → (flag : ℕ) → flag ≤ 1 → (s left : List ℕ) → s ≡ class ∷ kind ∷ flag ∷ left → IsBytes left
       → goOn (urlField flag left) (λ url. _>>=_ stringField (λ part. give (Body.item class kind url part))) ≡ Got.refused r → WrongField shape.Item s r
-  unfolding urlField piecesBytes allowed
+  unfolding urlField flatMap allowed
   part-wrong class kind ok zero l s left split h e =
       stop stringField string string-back left _ h e
       (wrong-string (Piece.byte class ∷ Piece.byte kind ∷ Piece.byte 0 ∷ []) left h split
@@ -126,7 +126,7 @@ module _ (r : Refusal) (not-cut : ¬ (r ≡ FieldCut)) where
       apart (cc)
 
   pub fields-wrong : (shape : Shape) (s : List ℕ) → IsBytes s → fieldsOf shape s ≡ Got.refused r → WrongField shape s r
-  unfolding sessionFields textFields statementFields codedFields optionsFields itemFields allowed piecesBytes versionAllowed formatAllowed classAllowed typeAllowed
+  unfolding sessionFields textFields statementFields codedFields optionsFields itemFields allowed flatMap versionAllowed formatAllowed classAllowed typeAllowed
   fields-wrong shape.Empty s h e = apart (cc)
   fields-wrong shape.Session s h e =
       stop byteField (λ x. x ∷ []) byte-back s _ h e (no-byte s) λ major s₁ p₁ h₁ e₁.

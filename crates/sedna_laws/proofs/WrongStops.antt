@@ -1,6 +1,6 @@
 -- A field that is wrong is refused, with 6 or 8.
 use mathlib.Core.Bool.{Bool, true, false}
-use mathlib.Core.List.{List, [], _∷_, _++_, append-assoc, append-nil}
+use mathlib.Core.List.{List, [], _∷_, _++_, append-assoc, append-nil, flatMap}
 use mathlib.Core.Path.{_≡_, refl, sym, ap, subst, _∙_}
 use Prim.Native.Nat.{ℕ, zero, suc, _≤_}
 use native.Mathlib.Omega.{arith}
@@ -61,14 +61,14 @@ module _ {shape : Shape} {front : List Piece} where
 module _ (r : Refusal) where
   text-stops : (t : List ℕ) (front : List Piece) (next : Piece) (behind : List Piece) (rest : List ℕ) → piecesOf (Body.text t) ≡ front ++ next ∷ behind → Wrong shape.Text front next rest r
       → textFields (piecesBytes front ++ rest) ≡ Got.refused r
-  unfolding textFields piecesBytes
+  unfolding textFields flatMap
   text-stops t [] next behind rest e w = rw (at-string w t (let z : next ≡ Piece.text t = cc in z))
   text-stops t (q ∷ fs) next behind rest e w = no-more fs next behind (let z : [] ≡ fs ++ next ∷ behind = cc in z)
 
   statement-stops : (format : ℕ) (t : List ℕ) → formatAllowed format ≡ true → (front : List Piece) (next : Piece) (behind : List Piece) (rest : List ℕ)
       → piecesOf (Body.statement format t) ≡ front ++ next ∷ behind
       → Wrong shape.Statement front next rest r → statementFields (piecesBytes front ++ rest) ≡ Got.refused r
-  unfolding statementFields piecesBytes allowed
+  unfolding statementFields flatMap allowed
   statement-stops format t ok [] next behind rest e w =
       let b = at-byte w format (let z : next ≡ Piece.byte format = cc in z) in
       let bad : formatAllowed (b .0) ≡ false = fails (formatAllowed (b .0))
@@ -82,7 +82,7 @@ module _ (r : Refusal) where
   coded-stops : (code : ℕ) (t : List ℕ) (front : List Piece) (next : Piece) (behind : List Piece) (rest : List ℕ) → IsBytes (piecesBytes front ++ rest)
       → piecesOf (Body.coded code t) ≡ front ++ next ∷ behind
       → Wrong shape.Coded front next rest r → codedFields (piecesBytes front ++ rest) ≡ Got.refused r
-  unfolding codedFields piecesBytes
+  unfolding codedFields flatMap
   coded-stops code t [] next behind rest h e w = at-number w code (let z : next ≡ Piece.number code = cc in z)
   coded-stops code t (q ∷ []) next behind rest h e w =
       let q′ : q ≡ Piece.number code = cc in
@@ -92,7 +92,7 @@ module _ (r : Refusal) where
   session-stops : (major minor : ℕ) (user database : List ℕ) → versionAllowed major minor ≡ true → (front : List Piece) (next : Piece) (behind : List Piece) (rest : List ℕ)
       → IsBytes (piecesBytes front ++ rest)
       → piecesOf (Body.session major minor user database) ≡ front ++ next ∷ behind → Wrong shape.Session front next rest r → sessionFields (piecesBytes front ++ rest) ≡ Got.refused r
-  unfolding sessionFields piecesBytes allowed
+  unfolding sessionFields flatMap allowed
   session-stops major minor user database ok [] next behind rest h e w =
       let b = at-version w major minor (let z : next ≡ Piece.version major minor = cc in z) in
       let bad : versionAllowed (b .0) (b .1) ≡ false = fails (versionAllowed (b .0) (b .1))
@@ -135,7 +135,7 @@ module _ (r : Refusal) where
   flag-stops : (class kind : ℕ) (url : Url) (part : List ℕ) → allowed (Body.item class kind Url.absent part) ≡ true
       → (fs : List Piece) (next : Piece) (behind : List Piece) (rest : List ℕ) → IsBytes (piecesBytes fs ++ rest)
       → urlPieces url part ≡ fs ++ next ∷ behind → Wrong shape.Item (Piece.byte class ∷ Piece.byte kind ∷ fs) next rest r → itemFields (class ∷ kind ∷ (piecesBytes fs ++ rest)) ≡ Got.refused r
-  unfolding itemFields piecesBytes urlField allowed
+  unfolding itemFields flatMap urlField allowed
   flag-stops class kind url part ok [] next behind rest h e w =
       let good = both (classAllowed class) (typeAllowed kind) .0 ok in
       let f = flag-piece url part next behind e in
@@ -162,7 +162,7 @@ module _ (r : Refusal) where
   item-stops : (class kind : ℕ) (url : Url) (part : List ℕ) → allowed (Body.item class kind url part) ≡ true
       → (front : List Piece) (next : Piece) (behind : List Piece) (rest : List ℕ) → IsBytes (piecesBytes front ++ rest)
       → piecesOf (Body.item class kind url part) ≡ front ++ next ∷ behind → Wrong shape.Item front next rest r → itemFields (piecesBytes front ++ rest) ≡ Got.refused r
-  unfolding itemFields piecesBytes allowed
+  unfolding itemFields flatMap allowed
   item-stops class kind url part ok [] next behind rest h e w =
       let b = at-byte w class (let z : next ≡ Piece.byte class = cc in z) in
       let good = both (classAllowed class) (typeAllowed kind) .0 ok in
@@ -213,7 +213,7 @@ module _ (r : Refusal) where
   pairs-stop : (ps : List Pair) (front : List Piece) (next : Piece) (behind : List Piece) (rest : List ℕ) → IsBytes (piecesBytes front ++ rest) → pairPieces ps ≡ front ++ next ∷ behind
       → ((t : List ℕ) → next ≡ Piece.text t → stringField rest ≡ Got.refused r) → ((k : ℕ) → next ≡ Piece.number k → ⊥) → (n : ℕ) → length (piecesBytes front ++ rest) ≤ n
       → pairsField n (piecesBytes front ++ rest) ≡ Got.refused r
-  unfolding pairPieces piecesBytes pairBytes
+  unfolding flatMap pairBytes
   pairs-stop [] front next behind rest h e at never n l = no-more front next behind e
   pairs-stop (p ∷ ps) [] next behind rest h e at never n l = absurd (never (p .id) (let z : next ≡ Piece.number (p .id) = cc in z))
   pairs-stop (p ∷ ps) (q ∷ []) next behind rest h e at never n l =

@@ -1,17 +1,9 @@
 -- Document 01, "Order when reading": the moment of each refusal, told by the table, the published bodies and the bytes. No reader is known here.
-use mathlib.Core.Bool.{true}
-use mathlib.Core.List.{List, _++_}
-use mathlib.Core.Path.{_≡_}
+use mathlib.Core.{Bool.true, List.List, List._++_, Path._≡_}
 use Prim.Native.Nat.{ℕ, _+_, _<_, _≤_}
 use lib.ListN.{length, take, drop}
-use Rattle.wire.specs.Bytes.{IsBytes, intAt}
-use Rattle.wire.specs.declared.Refusal.{Refusal}
-use Rattle.sedna.specs.declared.Entry.{Entry}
-use Rattle.sedna.specs.declared.Shape.{Shape}
-use Rattle.sedna.specs.declared.Side.{Side}
-use Rattle.sedna.specs.Allowed.{allowed}
-use Rattle.sedna.specs.Encode.{bodyBytes}
-use Rattle.sedna.specs.Message.{Body, shapeOf}
+use Rattle.wire.specs.{Bytes.IsBytes, Bytes.intAt, declared.Refusal.Refusal}
+use Rattle.sedna.specs.{declared.Entry.Entry, declared.Shape.Shape, declared.Side.Side, Allowed.allowed, Encode.bodyBytes, Message.Body, Message.shapeOf}
 use Rattle.sedna.specs.Table.{InTable}
 use Rattle.sedna_laws.specs.Pieces.{WrongField}
 

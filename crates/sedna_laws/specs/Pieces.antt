@@ -1,15 +1,8 @@
 -- The fields of a body, left to right, by the rows of document 01's table; and what stands in the place of one that is wrong.
-use mathlib.Core.Bool.{true}
-use mathlib.Core.List.{List, [], _∷_, _++_}
-use mathlib.Core.Path.{_≡_}
+use mathlib.Core.{Bool.true, List.List, List.[], List._∷_, List._++_, List.flatMap, Path._≡_}
 use Prim.Native.Nat.{ℕ, _<_, _≤_}
-use Rattle.wire.specs.Bytes.{IsBytes, int}
-use Rattle.wire.specs.Every.{Every}
-use Rattle.wire.specs.declared.Refusal.{Refusal}
-use Rattle.sedna.specs.declared.Shape.{Shape}
-use Rattle.sedna.specs.Allowed.{allowed}
-use Rattle.sedna.specs.Encode.{string}
-use Rattle.sedna.specs.Message.{Url, Pair, Body, shapeOf}
+use Rattle.wire.specs.{Bytes.IsBytes, Bytes.int, Every.Every, declared.Refusal.Refusal}
+use Rattle.sedna.specs.{declared.Shape.Shape, Allowed.allowed, Encode.string, Message.Url, Message.Pair, Message.Body, Message.shapeOf}
 
 pub data Piece : Type 0 where
   -- a format, class, type or URL flag
@@ -27,14 +20,12 @@ pieceBytes (Piece.version major minor) = major ∷ minor ∷ []
 pieceBytes (Piece.number n) = int n
 pieceBytes (Piece.text t) = string t
 
-unfoldable pub piecesBytes : List Piece → List ℕ
-piecesBytes [] = []
-piecesBytes (p ∷ ps) = pieceBytes p ++ piecesBytes ps
+abbrev pub piecesBytes : List Piece → List ℕ
+piecesBytes = flatMap pieceBytes
 
 -- "any number of: int id, string"
-unfoldable pub pairPieces : List Pair → List Piece
-pairPieces [] = []
-pairPieces (p ∷ ps) = Piece.number (p .id) ∷ Piece.text (p .value) ∷ pairPieces ps
+abbrev pub pairPieces : List Pair → List Piece
+pairPieces = flatMap (λ (p : Pair). Piece.number (p .id) ∷ Piece.text (p .value) ∷ [])
 
 -- "URL flag, [URL], part"
 abbrev pub urlPieces : Url → List ℕ → List Piece

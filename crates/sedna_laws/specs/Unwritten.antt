@@ -1,15 +1,10 @@
 -- Document 01, "When writing or cutting: 2, 8, 11, 14, 10": the moment of each refusal, told by the table and the message.
-use mathlib.Core.Bool.{true}
-use mathlib.Core.Path.{_≡_}
+use mathlib.Core.{Bool.true, Path._≡_}
 use Prim.Native.Nat.{ℕ, _<_, _≤_}
 use lib.ListN.{length}
 use Rattle.wire.specs.declared.Refusal.{Refusal}
 use Rattle.wire.specs.declared.Refusal.the-variants.{UnknownInstruction, ValueNotAllowed, NoEncoding, NoRoom}
-use Rattle.sedna.specs.declared.Entry.{Entry}
-use Rattle.sedna.specs.declared.Side.{Side}
-use Rattle.sedna.specs.Allowed.{allowed}
-use Rattle.sedna.specs.Encode.{bodyBytes, encode}
-use Rattle.sedna.specs.Message.{Message, shapeOf}
+use Rattle.sedna.specs.{declared.Entry.Entry, declared.Side.Side, Allowed.allowed, Encode.bodyBytes, Encode.encode, Message.Message, Message.shapeOf}
 use Rattle.sedna.specs.Table.{InTable}
 
 pub data Unwritten (room : ℕ) (m : Message) : Refusal → Type 0 where

@@ -1,19 +1,13 @@
 -- Booleans as they are read.
-use mathlib.Core.Bool.{Bool, true, false}
-use mathlib.Core.List.{List}
+use mathlib.Core.{Bool.Bool, Bool.true, Bool.false, List.List}
 use Prim.Native.Nat.{ℕ}
-use lib.Dec.{eqb}
-use lib.ListN.{length, getD}
-use Rattle.wire.specs.Bytes.{if}
-use Rattle.wire.specs.declared.Refusal.the-variants.{NotOfForm}
-use Rattle.sedna_value.specs.declared.Value.the-variants.{Boolean}
-use Rattle.sedna_value.specs.declared.Valued.{Valued}
+use lib.{Dec.eqb, ListN.length, ListN.getD}
+use Rattle.wire.specs.{Bytes.if, declared.Refusal.the-variants.NotOfForm}
+use Rattle.sedna_value.specs.{declared.Value.the-variants.Boolean, declared.Valued.Valued}
 
--- true
 abbrev pub trueAt : List ℕ → Bool
 trueAt s = if (eqb (getD s 0 0) 116) (if (eqb (getD s 1 0) 114) (if (eqb (getD s 2 0) 117) (eqb (getD s 3 0) 101) false) false) false
 
--- false
 abbrev pub falseAt : List ℕ → Bool
 falseAt s =
     if (eqb (getD s 0 0) 102)

@@ -1,18 +1,10 @@
 -- Doubles as they are read.
-use mathlib.Core.Bool.{Bool, true, false}
-use mathlib.Core.List.{List}
+use mathlib.Core.{Bool.Bool, Bool.true, Bool.false, List.List}
 use Prim.Native.Nat.{ℕ, _+_, _-_, _*_, _^_}
-use lib.Dec.{eqb, ltb}
-use lib.Ieee.{Float, binary64, ofInt, div, neg}
-use lib.IntN.{pos}
-use lib.ListN.{length, getD}
-use Rattle.wire.specs.Bytes.{if}
-use Rattle.wire.specs.declared.Refusal.the-variants.{NotOfForm, OutOfRange}
-use Rattle.sedna_value.specs.declared.Value.the-variants.{Double}
-use Rattle.sedna_value.specs.declared.Valued.{Valued}
-use Rattle.sedna_digits.specs.declared.Run.{Run}
-use Rattle.sedna_value.specs.declared.doubles.Decimal.{Decimal}
-use Rattle.sedna_digits.specs.Digits.{digitsAt, behindSign}
+use lib.{Dec.eqb, Dec.ltb, Ieee.Float, Ieee.binary64, Ieee.ofInt, Ieee.div, Ieee.neg, IntN.pos, ListN.length, ListN.getD}
+use Rattle.wire.specs.{Bytes.if, declared.Refusal.the-variants.NotOfForm, declared.Refusal.the-variants.OutOfRange}
+use Rattle.sedna_value.specs.{declared.Value.the-variants.Double, declared.Valued.Valued, declared.doubles.Decimal.Decimal}
+use Rattle.sedna_digits.specs.{declared.Run.Run, Digits.digitsAt, Digits.behindSign}
 
 -- "the one rounded division of the digits by the power of ten": both as doubles
 abbrev pub divided : ℕ → ℕ → Float
@@ -38,11 +30,9 @@ decimalAt s at = decimalFrom s at (digitsAt s at)
 abbrev pub quotient : Decimal → Float
 quotient d = divided (d .whole * 10 ^ d .behind + d .fraction) (10 ^ d .behind)
 
--- NaN
 abbrev pub nanAt : List ℕ → Bool
 nanAt s = if (eqb (getD s 0 0) 78) (if (eqb (getD s 1 0) 97) (eqb (getD s 2 0) 78) false) false
 
--- INF
 abbrev pub infAt : List ℕ → ℕ → Bool
 infAt s at = if (eqb (getD s at 0) 73) (if (eqb (getD s (at + 1) 0) 78) (eqb (getD s (at + 2) 0) 70) false) false
 

@@ -1,17 +1,10 @@
 -- Document 02, request 1: "For a 4.0 item of class 1 return one typed answer", by its type.
-use mathlib.Core.Bool.{Bool, true}
-use mathlib.Core.List.{List}
+use mathlib.Core.{Bool.Bool, Bool.true, List.List}
 use Prim.Native.Nat.{ℕ}
 use lib.Dec.{eqb}
-use Rattle.wire.specs.Bytes.{if, between}
-use Rattle.wire.specs.declared.Refusal.the-variants.{NotOfForm}
-use Rattle.sedna_value.specs.declared.Value.the-variants.{At}
-use Rattle.sedna_instant.specs.declared.Dated.{Dated}
-use Rattle.sedna_value.specs.declared.Valued.{Valued}
-use Rattle.sedna_instant.specs.DateTimes.{instantOf}
-use Rattle.sedna_value.specs.Booleans.{booleanOf}
-use Rattle.sedna_value.specs.Doubles.{doubleOf}
-use Rattle.sedna_value.specs.Wholes.{wholeOf}
+use Rattle.wire.specs.{Bytes.if, Bytes.between, declared.Refusal.the-variants.NotOfForm}
+use Rattle.sedna_value.specs.{declared.Value.the-variants.At, declared.Valued.Valued, Booleans.booleanOf, Doubles.doubleOf, Wholes.wholeOf}
+use Rattle.sedna_instant.specs.{declared.Dated.Dated, DateTimes.instantOf}
 
 abbrev pub fromDated : Dated → Valued
 fromDated (Dated.At i) = Valued.Is (At i)

@@ -1,18 +1,10 @@
 -- Whole numbers as they are read.
-use mathlib.Core.Bool.{Bool}
-use mathlib.Core.List.{List}
+use mathlib.Core.{Bool.Bool, List.List}
 use Prim.Native.Nat.{ℕ}
-use lib.Dec.{eqb, leb, ltb}
-use lib.IntN.{ℤ, pos, negsuc}
-use lib.Signed.{ltZ}
-use lib.ListN.{length, getD}
-use Rattle.wire.specs.Bytes.{if, between}
-use Rattle.wire.specs.declared.Refusal.the-variants.{NotOfForm, OutOfRange}
-use Rattle.sedna_value.specs.declared.Value.the-variants.{Whole}
-use Rattle.sedna_value.specs.declared.Valued.{Valued}
-use Rattle.sedna_digits.specs.declared.Run.{Run}
-use Rattle.sedna_value.specs.declared.wholes.Signed.{Signed}
-use Rattle.sedna_digits.specs.Digits.{digitsAt, behindSign}
+use lib.{Dec.eqb, Dec.leb, Dec.ltb, IntN.ℤ, IntN.pos, IntN.negsuc, Signed.ltZ, ListN.length, ListN.getD}
+use Rattle.wire.specs.{Bytes.if, Bytes.between, declared.Refusal.the-variants.NotOfForm, declared.Refusal.the-variants.OutOfRange}
+use Rattle.sedna_value.specs.{declared.Value.the-variants.Whole, declared.Valued.Valued, declared.wholes.Signed.Signed}
+use Rattle.sedna_digits.specs.{declared.Run.Run, Digits.digitsAt, Digits.behindSign}
 use Rattle.sedna_digits.specs.Numbers as numbers
 
 -- the least number of a type in 64 bits with a sign, and the greatest

@@ -1,7 +1,5 @@
 -- Document 02, request 1: "a yes or no (25)", by the four texts of XML Schema's boolean. No reader is known here.
-use mathlib.Core.Bool.{Bool, true, false}
-use mathlib.Core.List.{List}
-use mathlib.Core.Path.{_≡_}
+use mathlib.Core.{Bool.Bool, Bool.true, Bool.false, List.List, Path._≡_}
 use Prim.Native.Nat.{ℕ}
 use Rattle.sedna_value.specs.declared.Value.{Value}
 use Rattle.sedna_value_laws.specs.Ascii.{ascii}

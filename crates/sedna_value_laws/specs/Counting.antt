@@ -1,6 +1,5 @@
 -- The calendar counts day by day, over the ends of months and years. The last three lines are what any almanac says.
-use mathlib.Core.List.{[], _∷_, map}
-use mathlib.Core.Path.{_≡_}
+use mathlib.Core.{List.[], List._∷_, List.map, Path._≡_}
 use Prim.Native.Nat.{ℕ, _+_, _≤_}
 use Rattle.sedna_instant.specs.Calendar.{monthLength, daysBefore}
 

@@ -1,17 +1,12 @@
 -- Document 02, request 1: XML Schema's dateTime, its fields one behind the other, and the instant that it means: days by counting them, then seconds, then
 -- the zone. No reader is known here.
-use mathlib.Core.Bool.{Bool, true, false}
-use mathlib.Core.List.{List, [], _∷_, _++_}
-use mathlib.Core.Logic.{_⊎_}
-use mathlib.Core.Path.{_≡_}
+use mathlib.Core.{Bool.Bool, Bool.true, Bool.false, List.List, List.[], List._∷_, List._++_, Logic._⊎_, Path._≡_}
 use Prim.Native.Nat.{ℕ, _+_, _-_, _*_, _/_, _%_, _≤_, _<_}
-use lib.IntN.{ℤ, pos, negℤ, _-ℤ_}
-use lib.ListN.{length, getD, replicate}
+use lib.{IntN.ℤ, IntN.pos, IntN.negℤ, IntN._-ℤ_, ListN.length, ListN.getD, ListN.replicate}
 use Rattle.wire.specs.Every.{Every}
 use Rattle.sedna_digits.specs.Numbers.{number, AreDigits, text}
-use Rattle.sedna_instant.specs.declared.Instant.{Instant}
+use Rattle.sedna_instant.specs.{declared.Instant.Instant, Calendar.monthLength, Calendar.daysBefore}
 use Rattle.sedna_value.specs.declared.Value.{Value}
-use Rattle.sedna_instant.specs.Calendar.{monthLength, daysBefore}
 use Rattle.sedna_value_laws.specs.Ascii.{ascii}
 
 -- no zone, Z, or so many hours and minutes ahead of UTC or behind it

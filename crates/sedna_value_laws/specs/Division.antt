@@ -1,17 +1,11 @@
 -- Document 02, request 1: "the one rounded division of the digits by the power of ten, both exact, negated for a minus sign (so -0 is negative zero)".
-use mathlib.Core.Bool.{Bool, true, false}
-use mathlib.Core.Path.{_≡_}
+use mathlib.Core.{Bool.Bool, Bool.true, Bool.false, Path._≡_}
 use Prim.Native.Nat.{ℕ, _^_, _≤_, _<_}
-use lib.Ieee.{Float, binary64, fin, ofInt, div, round, isNan}
-use lib.Ieee.Exact.{HasValue}
-use lib.IntN.{pos}
-use lib.ListN.{length}
+use lib.{Ieee.Float, Ieee.binary64, Ieee.fin, Ieee.ofInt, Ieee.div, Ieee.round, Ieee.isNan, Ieee.Exact.HasValue, IntN.pos, ListN.length}
 use Rattle.wire.specs.Every.{Every}
 use Rattle.sedna_digits.specs.Numbers.{number}
-use Rattle.sedna_value.specs.declared.Value.the-variants.{Double}
-use Rattle.sedna_value.specs.declared.Valued.{Valued}
+use Rattle.sedna_value.specs.{declared.Value.the-variants.Double, declared.Valued.Valued, Values.valueOf}
 use Rattle.sedna_value_laws.specs.Types.{double}
-use Rattle.sedna_value.specs.Values.{valueOf}
 use Rattle.sedna_value_laws.specs.DoubleTexts.{Mantissa, digits, places, Exponent, DoubleText, written, Formed, negated}
 use Rattle.sedna_value_laws.specs.Signs.{Sign, isMinus}
 

@@ -1,16 +1,11 @@
 -- Document 02, request 1: "A double is an optional sign, one to fifteen digits, optionally with a point among or beside them", and what XML Schema has
 -- besides, an exponent, INF, -INF and NaN. No reader is known here.
-use mathlib.Core.Bool.{Bool, true, false}
-use mathlib.Core.List.{List, [], _++_}
-use mathlib.Core.Path.{_≡_}
+use mathlib.Core.{Bool.Bool, Bool.true, Bool.false, List.List, List.[], List._++_, Path._≡_}
 use Prim.Native.Nat.{ℕ, _+_, _^_, _≤_, _<_}
-use lib.Ieee.{Float, binary64, round, neg}
-use lib.ListN.{length}
+use lib.{Ieee.Float, Ieee.binary64, Ieee.round, Ieee.neg, ListN.length}
 use Rattle.sedna_digits.specs.Numbers.{number, AreDigits, text}
-use Rattle.sedna_value.specs.declared.Value.{Value}
-use Rattle.sedna_value.specs.declared.Value.the-variants.{Double}
-use Rattle.sedna_value_laws.specs.Ascii.{ascii}
-use Rattle.sedna_value_laws.specs.Signs.{Sign, signText, isMinus}
+use Rattle.sedna_value.specs.{declared.Value.Value, declared.Value.the-variants.Double}
+use Rattle.sedna_value_laws.specs.{Ascii.ascii, Signs.Sign, Signs.signText, Signs.isMinus}
 
 -- digits without a point, or those before it and those behind it
 pub data Mantissa : Type 0 where

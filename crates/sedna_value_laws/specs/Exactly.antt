@@ -1,14 +1,8 @@
 -- Document 02, request 1: the value of a text, and each of its two refusals, exactly when.
-use mathlib.Core.List.{List}
-use mathlib.Core.Logic.{_↔_, _⊎_}
-use mathlib.Core.Option.{some}
-use mathlib.Core.Path.{_≡_}
+use mathlib.Core.{List.List, Logic._↔_, Logic._⊎_, Option.some, Path._≡_}
 use Prim.Native.Nat.{ℕ}
-use Rattle.wire.specs.declared.Refusal.{Refusal}
-use Rattle.wire.specs.Refusals.{numberOf}
-use Rattle.sedna_value.specs.declared.Value.{Value}
-use Rattle.sedna_value.specs.declared.Valued.{Valued}
-use Rattle.sedna_value.specs.Values.{valueOf}
+use Rattle.wire.specs.{declared.Refusal.Refusal, Refusals.numberOf}
+use Rattle.sedna_value.specs.{declared.Value.Value, declared.Valued.Valued, Values.valueOf}
 use Rattle.sedna_value_laws.specs.Texts.{Kind, Text, kindOf, written, Formed, Means, Excluded}
 
 -- class and type are named, and s is a text of its form

@@ -1,15 +1,11 @@
 -- Texts and their answers, to be checked at sight: the places of document 02, request 1, that are easily got wrong.
-use mathlib.Core.Bool.{Bool, true, false}
-use mathlib.Core.List.{List, [], _∷_, map}
-use mathlib.Core.Path.{_≡_}
+use mathlib.Core.{Bool.Bool, Bool.true, Bool.false, List.List, List.[], List._∷_, List.map, Path._≡_}
 use Prim.Native.Nat.{ℕ}
 use Prim.Native.String.{String}
-use lib.Ieee.{Float, fin}
-use lib.IntN.{ℤ, pos, negsuc, negℤ}
+use lib.{Ieee.Float, Ieee.fin, IntN.ℤ, IntN.pos, IntN.negsuc, IntN.negℤ}
 use Rattle.wire.specs.Refusals.{numberOf}
 use Rattle.sedna_value.specs.declared.Value.the-variants.{Whole, At, Boolean, Double}
-use Rattle.sedna_value.specs.declared.Valued.{Valued}
-use Rattle.sedna_value.specs.Values.{valueOf}
+use Rattle.sedna_value.specs.{declared.Valued.Valued, Values.valueOf}
 use Rattle.sedna_value_laws.specs.Ascii.{ascii}
 
 -- a refusal's number, or the value

@@ -1,18 +1,11 @@
 -- What the old program got wrong: "An expiry of 09:00:00+02:00 came as a dateTime, was kept as text, and was compared with 08:30:00Z as text."
-use mathlib.Core.Bool.{false}
-use mathlib.Core.List.{List, []}
-use mathlib.Core.Path.{_≡_}
+use mathlib.Core.{Bool.false, List.List, List.[], Path._≡_}
 use Prim.Native.Nat.{ℕ, _≤_}
 use lib.IntN.{pos, _+ℤ_}
 use Rattle.sedna_digits.specs.Numbers.{number}
-use Rattle.sedna_instant.specs.declared.Instant.{Instant}
-use Rattle.sedna_instant.specs.declared.Order.the-variants.{Earlier}
-use Rattle.sedna_instant.specs.Orders.{ordered}
-use Rattle.sedna_value.specs.declared.Value.the-variants.{At}
-use Rattle.sedna_value.specs.declared.Valued.{Valued}
-use Rattle.sedna_value_laws.specs.Types.{dateTime}
-use Rattle.sedna_value.specs.Values.{valueOf}
-use Rattle.sedna_value_laws.specs.DateTimeTexts.{Zone, DateTime, written, Formed}
+use Rattle.sedna_instant.specs.{declared.Instant.Instant, declared.Order.the-variants.Earlier, Orders.ordered}
+use Rattle.sedna_value.specs.{declared.Value.the-variants.At, declared.Valued.Valued, Values.valueOf}
+use Rattle.sedna_value_laws.specs.{Types.dateTime, DateTimeTexts.Zone, DateTimeTexts.DateTime, DateTimeTexts.written, DateTimeTexts.Formed}
 
 -- a time of a day, on the minute
 abbrev at : List ℕ → ℕ → ℕ → ℕ → ℕ → Zone → DateTime

@@ -1,16 +1,10 @@
 -- Document 02, request 1: "Instants are ordered by these alone."
-use mathlib.Core.List.{List}
-use mathlib.Core.Logic.{_↔_, _⊎_}
-use mathlib.Core.Path.{_≡_}
+use mathlib.Core.{List.List, Logic._↔_, Logic._⊎_, Path._≡_}
 use Prim.Native.Nat.{ℕ, _<_}
-use lib.IntN.{ℤ, pos, _+ℤ_, _*ℤ_}
-use lib.Signed.{_<ℤ_}
+use lib.{IntN.ℤ, IntN.pos, IntN._+ℤ_, IntN._*ℤ_, Signed._<ℤ_}
 use Rattle.sedna_instant.specs.declared.Instant.{Instant}
-use Rattle.sedna_instant.specs.declared.Order.the-variants.{Earlier, Same, Later}
-use Rattle.sedna_instant.specs.Orders.{ordered}
-use Rattle.sedna_value.specs.declared.Value.the-variants.{At}
-use Rattle.sedna_value.specs.declared.Valued.{Valued}
-use Rattle.sedna_value.specs.Values.{valueOf}
+use Rattle.sedna_instant.specs.{declared.Order.the-variants.Earlier, declared.Order.the-variants.Same, declared.Order.the-variants.Later, Orders.ordered}
+use Rattle.sedna_value.specs.{declared.Value.the-variants.At, declared.Valued.Valued, Values.valueOf}
 
 -- a point in time: nanoseconds from 1970-01-01T00:00:00Z
 abbrev pub point : Instant → ℤ

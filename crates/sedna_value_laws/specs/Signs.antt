@@ -1,6 +1,5 @@
 -- An optional sign.
-use mathlib.Core.Bool.{Bool, true, false}
-use mathlib.Core.List.{List, []}
+use mathlib.Core.{Bool.Bool, Bool.true, Bool.false, List.List, List.[]}
 use Prim.Native.Nat.{ℕ}
 use Rattle.sedna_value_laws.specs.Ascii.{ascii}
 

@@ -1,7 +1,6 @@
 -- Document 02, request 1: "a whole number (types 24 and 50 to 61, with each type's own range, limited to signed 64 bits), an instant (10), a yes or no (25),
 -- or a double (22)". The types' numbers are Sedna's, their names and ranges those of XML Schema Part 2.
-use mathlib.Core.List.{List, [], _∷_}
-use mathlib.Core.Option.{Option, none, some}
+use mathlib.Core.{List.List, List.[], List._∷_, Option.Option, Option.none, Option.some}
 use Prim.Native.Nat.{ℕ, _-_, _^_}
 use lib.IntN.{ℤ, pos, negℤ}
 

@@ -1,15 +1,10 @@
 -- Document 02, request 1: "a whole number is always an optional sign and digits". No reader is known here.
-use mathlib.Core.List.{List, _++_}
-use mathlib.Core.Option.{Option, none, some}
-use mathlib.Core.Path.{_≡_}
+use mathlib.Core.{List.List, List._++_, Option.Option, Option.none, Option.some, Path._≡_}
 use Prim.Native.Nat.{ℕ, _-_, _^_, _<_}
-use lib.IntN.{ℤ, pos, negℤ}
-use lib.ListN.{length}
-use lib.Signed.{_≤ℤ_}
+use lib.{IntN.ℤ, IntN.pos, IntN.negℤ, ListN.length, Signed._≤ℤ_}
 use Rattle.sedna_digits.specs.Numbers.{number, AreDigits, text, signed}
 use Rattle.sedna_value.specs.declared.Value.{Value}
-use Rattle.sedna_value_laws.specs.Types.{WholeType}
-use Rattle.sedna_value_laws.specs.Signs.{Sign, signText, isMinus}
+use Rattle.sedna_value_laws.specs.{Types.WholeType, Signs.Sign, Signs.signText, Signs.isMinus}
 
 pub record WholeText : Type 0 where
   pub sign : Sign

@@ -1,6 +1,6 @@
 -- Options given as three lists: one at a time.
 use mathlib.Core.Path.{_≡_, refl, sym, ap, _∙_}
-use mathlib.Core.List.{List, [], _∷_, _++_}
+use mathlib.Core.List.{List, [], _∷_, _++_, flatMap}
 use mathlib.Core.Bool.{Bool, true, false}
 use Prim.Native.Nat.{ℕ, _+_, _*_, _-_, _≤_, _<_, min}
 use native.Mathlib.Numerals.{add-one}
@@ -84,7 +84,7 @@ unfolding pairBytes
 pair-length p = omega (arith, length-append (int (p .id)) (string (p .value)), int-length (p .id), string-length (p .value))
 
 pub pairs-counted : (ids lengths values : List ℕ) → length ids ≡ length lengths → sum lengths ≡ length values → length (pairsBytes (pairsOf ids lengths values)) ≡ length ids * 9 + length values
-unfolding pairsBytes pairsOf sum
+unfolding flatMap pairsOf sum
 pairs-counted [] [] values e s = omega arith
 pairs-counted [] (n ∷ lengths) values e s = absurd (omega arith)
 pairs-counted (i ∷ ids) [] values e s = absurd (omega arith)
@@ -103,7 +103,7 @@ module _ (ids lengths values : List ℕ) (k from : ℕ) (h : k < length ids) (g 
   pub ahead-next : {t d e : List ℕ} {at : ℕ} → Ahead t d at (pairsBytes (pairsOf (drop k ids) (drop k lengths) (drop from values)))
       → e ≡ putAt d at (pairBytes (record { id = getD ids k 0; value = take (from + getD lengths k 0 - from) (drop from values) }))
       → Ahead t e (at + 9 + (from + getD lengths k 0 - from)) rest-bytes
-  unfolding pairsBytes
+  unfolding flatMap
   ahead-next {t} {d} {e} {at} a p =
       let n : ℕ = getD lengths k 0 in
       let c : from + n - from ≡ n = omega arith in
@@ -118,7 +118,7 @@ module _ (ids lengths values : List ℕ) (k from : ℕ) (h : k < length ids) (g 
 
   -- it fits, since what is ahead does
   pub next-fits : {t d : List ℕ} {at : ℕ} → Ahead t d at (pairsBytes (pairsOf (drop k ids) (drop k lengths) (drop from values))) → at + 9 + getD lengths k 0 ≤ length d
-  unfolding pairsBytes
+  unfolding flatMap
   next-fits {t} {d} {at} a =
       let n : ℕ = getD lengths k 0 in
       let q : Pair = record { id = getD ids k 0; value = take n (drop from values) } in
@@ -130,7 +130,7 @@ module _ (ids lengths values : List ℕ) (k from : ℕ) (h : k < length ids) (g 
 
 -- all options were written
 pub ahead-end : {t d : List ℕ} {at : ℕ} (ids lengths values : List ℕ) (k : ℕ) → length ids ≤ k → Ahead t d at (pairsBytes (pairsOf (drop k ids) (drop k lengths) values)) → d ≡ t
-unfolding pairsBytes
+unfolding flatMap
 ahead-end {t} {d} {at} ids lengths values k h a =
     let e : pairsBytes (pairsOf (drop k ids) (drop k lengths) values) ≡ [] = ap pairsBytes (pairs-end ids lengths values k h) in
     sym (splice-none d at) ∙ ap (splice d at) (sym e) ∙ a .makes

@@ -1,15 +1,9 @@
 -- The options of a SetOptions message, given as three lists: ids, how many bytes each value has, and the values one behind the other.
-use mathlib.Core.List.{List, [], _∷_}
-use mathlib.Core.Bool.{Bool, false}
+use mathlib.Core.{List.List, List.[], List._∷_, Bool.Bool, Bool.false}
 use Prim.Native.Nat.{ℕ, _+_}
-use lib.Dec.{eqb}
-use lib.ListN.{length, take, drop}
-use Rattle.wire.specs.Bytes.{if}
-use Rattle.wire.specs.Call.{Writes}
-use Rattle.wire.specs.declared.Counted.{Counted}
-use Rattle.sedna.specs.declared.Shape.the-variants.{Options}
-use Rattle.sedna.specs.Encode.{pairsBytes, encode}
-use Rattle.sedna.specs.Message.{Pair, Body, Message, message}
+use lib.{Dec.eqb, ListN.length, ListN.take, ListN.drop}
+use Rattle.wire.specs.{Bytes.if, Call.Writes, declared.Counted.Counted}
+use Rattle.sedna.specs.{declared.Shape.the-variants.Options, Encode.pairsBytes, Encode.encode, Message.Pair, Message.Body, Message.Message, Message.message}
 use Rattle.sedna_write.specs.Writing.{judgement}
 
 unfoldable pub sum : List ℕ → ℕ

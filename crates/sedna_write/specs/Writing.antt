@@ -1,18 +1,10 @@
 -- Document 01, "When writing or cutting: 2, 8, 11, 14, 10": what writing a message answers, and what it leaves in the lent output.
-use mathlib.Core.List.{List}
-use mathlib.Core.Bool.{Bool}
+use mathlib.Core.{List.List, Bool.Bool}
 use Prim.Native.Nat.{ℕ, _+_}
-use lib.Dec.{ltb}
-use lib.ListN.{length}
-use Rattle.wire.specs.Bytes.{if}
-use Rattle.wire.specs.Call.{inRoom, Writes}
-use Rattle.wire.specs.declared.Counted.{Counted}
+use lib.{Dec.ltb, ListN.length}
+use Rattle.wire.specs.{Bytes.if, Call.inRoom, Call.Writes, declared.Counted.Counted}
 use Rattle.wire.specs.declared.Refusal.the-variants.{UnknownInstruction, ValueNotAllowed, NoEncoding}
-use Rattle.sedna.specs.declared.Shape.{Shape}
-use Rattle.sedna.specs.declared.Fit.{Fit}
-use Rattle.sedna.specs.Allowed.{allowed}
-use Rattle.sedna.specs.Encode.{bodyBytes, encode}
-use Rattle.sedna.specs.Message.{Message, shapeOf}
+use Rattle.sedna.specs.{declared.Shape.Shape, declared.Fit.Fit, Allowed.allowed, Encode.bodyBytes, Encode.encode, Message.Message, Message.shapeOf}
 use Rattle.sedna.specs.Table.{findOf, fitOf}
 
 -- 2 for an instruction that the table lacks; 8 for one with another body, and for a value that is not allowed; 11 for a body above 10,240 bytes; then 10

@@ -26,7 +26,10 @@ fn judge(instruction: u32, shape: Shape, allowed: bool, n: usize, room: usize) -
                 if 10240 < n {
                     return Counted::Refused(Refusal::NoEncoding);
                 }
-                return wire::in_room(room, 0, 8 + n);
+                if !wire::has_room(room, 0, 8 + n) {
+                    return Counted::Refused(Refusal::NoRoom);
+                }
+                return Counted::Count(8 + n);
             }
             Counted::Refused(Refusal::ValueNotAllowed)
         }

@@ -1,11 +1,9 @@
 -- The step over a lent record: what it answers, and what it leaves in the record. Both are what the step by value returns.
-use mathlib.Core.List.{List}
-use mathlib.Core.Path.{_≡_}
+use mathlib.Core.{List.List, Path._≡_}
 use Prim.Native.Nat.{ℕ}
 use Rattle.sedna.specs.declared.Side.{Side}
 use Rattle.sedna_read.specs.declared.Reading.{Reading}
-use Rattle.session.specs.declared.Session.{Session}
-use Rattle.session.specs.Step.{stepped}
+use Rattle.session.specs.{declared.Session.Session, Step.stepped}
 
 abbrev pub lentAnswer : Session → Side → List ℕ → Reading
 lentAnswer s side bytes = stepped s side bytes .answer

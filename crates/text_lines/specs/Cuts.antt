@@ -1,6 +1,5 @@
 -- Parts of text: what stands before and behind a byte, words, and whether two texts are the same.
-use mathlib.Core.Bool.{Bool, true, false}
-use mathlib.Core.List.{List, [], _∷_}
+use mathlib.Core.{Bool.Bool, Bool.true, Bool.false, List.List, List.[], List._∷_}
 use Prim.Native.Nat.{ℕ, suc}
 use lib.Dec.{eqb}
 use Rattle.wire.specs.Bytes.{if}

@@ -1,12 +1,9 @@
 -- Numbers that text spells.
-use mathlib.Core.Bool.{Bool, true, false}
-use mathlib.Core.List.{List, [], _∷_}
+use mathlib.Core.{Bool.Bool, Bool.true, Bool.false, List.List, List.[], List._∷_}
 use Prim.Native.Nat.{ℕ, _+_, _*_, _-_}
-use lib.Dec.{eqb, ltb}
-use lib.ListN.{length}
+use lib.{Dec.eqb, Dec.ltb, ListN.length}
 use Rattle.wire.specs.Bytes.{if, between}
-use Rattle.text_lines.specs.declared.parse.Byte.{Byte}
-use Rattle.text_lines.specs.declared.parse.Number.{Number}
+use Rattle.text_lines.specs.{declared.parse.Byte.Byte, declared.parse.Number.Number}
 
 -- a digit's value, 0 to 9, A to F or a to f; 16 for any other byte
 unfoldable pub digitOf : ℕ → ℕ

@@ -1,14 +1,9 @@
 -- Bytes that text spells, put behind those that stand at the front of an output: `none` where the text spells none, or there is no room.
-use mathlib.Core.Path.{_≡_}
-use mathlib.Core.List.{List, [], _∷_, _++_}
-use mathlib.Core.Option.{Option, none, some}
+use mathlib.Core.{Path._≡_, List.List, List.[], List._∷_, List._++_, Option.Option, Option.none, Option.some}
 use Prim.Native.Nat.{ℕ, _+_, _*_, _-_, _≤_}
-use lib.Dec.{eqb, ltb}
-use lib.ListN.{length, take, getD, replicate}
+use lib.{Dec.eqb, Dec.ltb, ListN.length, ListN.take, ListN.getD, ListN.replicate}
 use Rattle.wire.specs.Bytes.{if, splice}
-use Rattle.text_lines.specs.declared.parse.Number.{Number}
-use Rattle.text_lines.specs.declared.parse.Spelt.{Spelt}
-use Rattle.text_lines.specs.Cuts.{beforeFirst, behindFirst, wordsOf}
+use Rattle.text_lines.specs.{declared.parse.Number.Number, declared.parse.Spelt.Spelt, Cuts.beforeFirst, Cuts.behindFirst, Cuts.wordsOf}
 use Rattle.text_lines.specs.Numbers.{digitOf, decimalOf}
 
 -- goes on with the bytes so far; none stays

@@ -3,11 +3,7 @@ use text_lines::names::entry;
 use text_lines::print;
 use text_lines::print::say;
 
-pub fn message(instruction: u32) {
-    print::decimal(instruction as u64);
-    say(b" ");
-    entry(
-        b"100 ErrorResponse
+const NAMES: [u8; 785] = *b"100 ErrorResponse
 110 StartUp
 120 SessionParameters
 130 AuthenticationParameters
@@ -52,7 +48,10 @@ pub fn message(instruction: u32) {
 530 SetOptions
 540 SetOptionsOk
 550 ResetOptions
-560 ResetOptionsOk",
-        instruction,
-    );
+560 ResetOptionsOk";
+
+pub fn message(instruction: u32) {
+    print::decimal(instruction as u64);
+    say(b" ");
+    entry(&NAMES, instruction);
 }

@@ -13,7 +13,7 @@ use Rattle.records.specs.Places.{Bounded, HeadRead, reach}
 use Rattle.records.specs.Record.{headOf}
 use Rattle.transcript.specs.declared.Input.{Input}
 use Rattle.transcript.specs.declared.Input.the-variants as input
-use Rattle.transcript.specs.Program.{Within, OfRecord}
+use Rattle.transcript.specs.inner.Program.{Within, OfRecord}
 
 pub within : (room : ℕ) {x : Input} {n : ℕ} → Within room x → x ≡ input.Bytes n → n ≤ room
 within room w e = subst (Within room) e w

@@ -15,7 +15,7 @@ use Rattle.records_printed.specs.declared.CountedLine.{CountedLine}
 use Rattle.records_printed.specs.declared.CountedLine.the-variants as line
 use Rattle.records_printed.specs.NextLine.{nextLine, goesOn}
 use Rattle.transcript.specs.declared.Progress.the-variants as progress
-use Rattle.transcript.specs.Program.{GoesOn}
+use Rattle.transcript.specs.inner.Program.{GoesOn}
 
 on : (s v : Session) (f : Front) (c : Counted) {n : ℕ} → goesOn s f c ≡ line.Record n v → GoesOn s (progress.On v) f
 on s v Front.end (counted.Count n) e = apart (cc)

@@ -4,7 +4,7 @@
 ghost use Prim.Native.Nat.{_≤_};
 ghost use lib.ListN.{length};
 ghost use Rattle.records.specs.Record.{front};
-ghost use Rattle.transcript.specs.Program.{Within, OfRecord, GoesOn};
+ghost use Rattle.transcript.specs.inner.Program.{Within, OfRecord, GoesOn};
 use libc::STDIN_FILENO;
 use libc::STDOUT_FILENO;
 use records::Head;

@@ -1,9 +1,7 @@
 -- Which of two instants is earlier, as a number.
 use Prim.Native.Nat.{ℕ}
 use lib.IntN.{ℤ, pos, negsuc}
-use Rattle.sedna_instant.specs.declared.Instant.{Instant}
-use Rattle.sedna_instant.specs.declared.Order.{Order}
-use Rattle.sedna_instant.specs.Orders.{ordered}
+use Rattle.sedna_instant.specs.{declared.Instant.Instant, declared.Order.Order, Orders.ordered}
 
 -- -1 earlier, 0 the same, 1 later
 abbrev pub orderNumber : Order → ℤ

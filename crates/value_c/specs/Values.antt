@@ -1,18 +1,10 @@
 -- Typed values for programs in C and Rust: what a value is, two whole numbers and a double.
-use mathlib.Core.Bool.{Bool, false}
-use mathlib.Core.List.{List, _∷_}
-use mathlib.Core.Path.{_≡_}
+use mathlib.Core.{Bool.Bool, Bool.false, List.List, List._∷_, Path._≡_}
 use Prim.Native.Nat.{ℕ}
-use lib.Dec.{ltb}
-use lib.Ieee.{Float, fin}
-use lib.IntN.{ℤ, pos}
-use lib.ListN.{length, drop}
-use Rattle.wire.specs.Bytes.{if}
-use Rattle.wire.specs.declared.Refusal.{Refusal}
+use lib.{Dec.ltb, Ieee.Float, Ieee.fin, IntN.ℤ, IntN.pos, ListN.length, ListN.drop}
+use Rattle.wire.specs.{Bytes.if, declared.Refusal.Refusal}
 use Rattle.answer_c.specs.Codes.{refusalCode}
-use Rattle.sedna_value.specs.declared.Value.{Value}
-use Rattle.sedna_value.specs.declared.Valued.{Valued}
-use Rattle.sedna_value.specs.Values.{valueOf}
+use Rattle.sedna_value.specs.{declared.Value.Value, declared.Valued.Valued, Values.valueOf}
 use Rattle.value_c.specs.declared.ValueNumbers.{ValueNumbers}
 
 abbrev pub flagOf : Bool → ℤ
@@ -49,14 +41,14 @@ abbrev pub unchanged : Refusal → List ℤ → List Float → Outcome
 unchanged r numbers doubles = record { code = refusalCode r; numbers = numbers; doubles = doubles }
 
 -- in front of what is lent
-abbrev pub inFront : ValueNumbers → List ℤ → List Float → Outcome
-inFront n numbers doubles = record { code = n .what; numbers = n .first ∷ n .second ∷ drop 2 numbers; doubles = n .double ∷ drop 1 doubles }
+abbrev pub valueTold : ValueNumbers → List ℤ → List Float → Outcome
+valueTold n numbers doubles = record { code = n .what; numbers = n .first ∷ n .second ∷ drop 2 numbers; doubles = n .double ∷ drop 1 doubles }
 
 -- "10 last": where two numbers and a double are not lent
 unfoldable pub lentOutcome : ValueNumbers → List ℤ → List Float → Outcome
 lentOutcome n numbers doubles =
     if (ltb (length numbers) 2) (unchanged Refusal.NoRoom numbers doubles)
-    (if (ltb (length doubles) 1) (unchanged Refusal.NoRoom numbers doubles) (inFront n numbers doubles))
+    (if (ltb (length doubles) 1) (unchanged Refusal.NoRoom numbers doubles) (valueTold n numbers doubles))
 
 abbrev pub valuedOutcome : Valued → List ℤ → List Float → Outcome
 valuedOutcome (Valued.Is v) numbers doubles = lentOutcome (numbersOf v) numbers doubles

@@ -3,7 +3,7 @@
 ghost use mathlib.Core.Path.{_≡_};
 ghost use Prim.Native.Nat.{_≤_};
 ghost use lib.ListN.{length};
-ghost use Rattle.value_c.specs.Values.{flagOf, inNumbers, numbersOf, inFront, lentOutcome, outcome, ComesTo};
+ghost use Rattle.value_c.specs.Values.{flagOf, inNumbers, numbersOf, valueTold, lentOutcome, outcome, ComesTo};
 ghost use Rattle.value_c.specs.Orders.{orderNumber, compared};
 use answer_c::refusal_code;
 use sedna_instant::Instant;
@@ -39,7 +39,7 @@ fn in_numbers(what: u64, first: i64, second: i64, double: f64) -> ValueNumbers
 
 fn put(numbers: &mut [i64], doubles: &mut [f64], n: ValueNumbers) -> u64
     requires { ⌜ (2 ≤ length (now numbers)) × (1 ≤ length (now doubles)) ⌝ }
-    ensures { λ r. ⌜ ComesTo (inFront n (now (numbers .entry)) (now (doubles .entry))) r (now (numbers .exit)) (now (doubles .exit)) ⌝ }
+    ensures { λ r. ⌜ ComesTo (valueTold n (now (numbers .entry)) (now (doubles .entry))) r (now (numbers .exit)) (now (doubles .exit)) ⌝ }
 {
     let first = n.first;
     let second = n.second;

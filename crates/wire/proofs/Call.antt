@@ -1,11 +1,12 @@
 -- Room and refusals of calls that write.
+use mathlib.Core.Bool.{Bool, true, false}
 use mathlib.Core.List.{List}
-use mathlib.Core.Path.{_≡_, refl}
-use Prim.Native.Nat.{ℕ, _+_, _≤_, _<_}
+use mathlib.Core.Path.{_≡_, refl, sym, _∙_}
+use Prim.Native.Nat.{ℕ, _+_, _-_, _≤_, _<_}
 use native.Mathlib.Omega.{arith}
-use lib.Dec.{ltb}
+use lib.Dec.{ltb, leb}
 use lib.ListN.{length}
-use borrow.Author.Tests.{lt-ltb, le-ltb, ltb-true, ltb-false}
+use borrow.Author.Tests.{lt-ltb, le-ltb, ltb-true, ltb-false, lt-leb, le-leb, leb-true, leb-false}
 use Rattle.wire.specs.declared.Counted.{Counted}
 use Rattle.wire.specs.declared.Counted.the-variants.{Count, Refused}
 use Rattle.wire.specs.declared.Refusal.{Refusal}
@@ -37,3 +38,19 @@ counted-there room at n m e =
 -- a refusal leaves the output
 pub refused-leaves : (a : Counted) (r : Refusal) (d : List ℕ) (at : ℕ) (s : List ℕ) → a ≡ Refused r → outputAfter a d at s ≡ d
 refused-leaves a r d at s e = rw e
+
+-- the test by which room is told, read back
+module _ (room at n : ℕ) where
+  pub room-behind : at ≤ room → leb n (room - at) ≡ leb (at + n) room
+  room-behind h = by (leb n (room - at)) refl
+    where
+      by : (t : Bool) → leb n (room - at) ≡ t → t ≡ leb (at + n) room
+      by true e = let l = leb-true n (room - at) e in sym (le-leb (at + n) room (omega arith))
+      by false e = let l = leb-false n (room - at) e in sym (lt-leb (at + n) room (omega arith))
+
+  module _ {t : Bool} (e : t ≡ leb (at + n) room) where
+    pub no-room : t ≡ false → room < at + n
+    no-room f = leb-false (at + n) room (sym e ∙ f)
+
+    pub is-room : t ≡ true → at + n ≤ room
+    is-room f = leb-true (at + n) room (sym e ∙ f)

@@ -1,13 +1,9 @@
 -- What a call that writes into lent output answers, and what it leaves there: all of its bytes or nothing. Document 01: "A refusal returns its number
 -- alone, with 0 bytes read or written; buffers and session record stay unchanged."
-use mathlib.Core.List.{List}
-use mathlib.Core.Path.{_≡_}
+use mathlib.Core.{List.List, Path._≡_}
 use Prim.Native.Nat.{ℕ, _+_}
-use lib.Dec.{ltb}
-use lib.ListN.{length}
-use Rattle.wire.specs.declared.Counted.{Counted}
-use Rattle.wire.specs.declared.Refusal.the-variants.{NoRoom}
-use Rattle.wire.specs.Bytes.{if, splice}
+use lib.{Dec.ltb, ListN.length}
+use Rattle.wire.specs.{declared.Counted.Counted, declared.Refusal.the-variants.NoRoom, Bytes.if, Bytes.splice}
 
 -- "lent output shorter than the bytes to be put there": n bytes from `at` on, in an output of so many
 abbrev pub inRoom : ℕ → ℕ → ℕ → Counted

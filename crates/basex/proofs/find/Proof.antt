@@ -29,10 +29,21 @@ find-spec =
     (λ c. search needs)
     (λ c.
     let n : length (c .before .before .before .before .before .before .table .result) ≡ 15 = ap length (c .before .before .before .before .before .loop .inv .1 .0) ∙ kinds-15 in
-    sym (c .before .before .before .before .before .loop .inv .1 .1 ∙ hit (c .before .before .before .before .before .before .before .row-byte .result) _ (c .before .before .before .before .before .before .table .result) (c .before .before .before .before .before .loop .i) (omega arith) (c .before .if1 .taken)))
+    sym (c .before .before .before .before .before .loop .inv .1 .1 ∙ hit (c .before .before .before .before .before .before .before .row-byte .result) _
+    (c .before .before .before .before .before .before .table .result) (c .before .before .before .before .before .loop .i) (omega arith) (c .before .if1 .taken)))
     (λ c. omega arith)
     (λ c. omega arith)
     (λ c.
-    let n : length (c .before .before .before .before .before .table .result) ≡ 15 = ap length (c .before .before .before .before .loop .inv .1 .0) ∙ kinds-15 in (search needs, (c .before .before .before .before .loop .inv .1 .0, c .before .before .before .before .loop .inv .1 .1 ∙ miss (c .before .before .before .before .before .before .row-byte .result) _ (c .before .before .before .before .before .table .result) (c .before .before .before .before .loop .i) (omega arith) (c .if1 .left))))
+    let n : length (c .before .before .before .before .before .table .result) ≡ 15 = ap length (c .before .before .before .before .loop .inv .1 .0)
+    ∙ kinds-15 in (
+      search needs,
+      (
+        c .before .before .before .before .loop .inv .1 .0,
+        c .before .before .before .before .loop .inv .1 .1
+            ∙ miss (c .before .before .before .before .before .before .row-byte .result) _ (c .before .before .before .before .before .table .result)
+            (c .before .before .before .before .loop .i) (omega arith) (c .if1 .left),
+      ),
+    ))
     (λ c.
-    let n : length (c .before .before .table .result) ≡ 15 = ap length (c .before .loop .inv .1 .0) ∙ kinds-15 in sym (c .before .loop .inv .1 .1 ∙ past (c .before .before .before .row-byte .result) (c .before .before .table .result) (c .before .loop .i) (omega arith))))
+    let n : length (c .before .before .table .result) ≡ 15 = ap length (c .before .loop .inv .1 .0)
+    ∙ kinds-15 in sym (c .before .loop .inv .1 .1 ∙ past (c .before .before .before .row-byte .result) (c .before .before .table .result) (c .before .loop .i) (omega arith))))

@@ -24,8 +24,13 @@ loop-again c =
     let k : ℕ = a .n - (l .i + 1) in
     let s : a .n - l .i ≡ suc k = let t = c .before .before .before .before .loop-test .taken in omega arith in
     let v = l .inv .3 ∙ ap (λ (m : ℕ). textsStored m (l .out) (l .end) (drop (l .from) (a .bytes .now))) s in
-    let w = one-more (a .bytes .now) (l .out) (l .from) (l .end) k (p .result) (p .ensures .answers) in
-    (omega arith, p .kept .1 .1 .0 ∙ l .inv .1, (omega arith, omega arith), v ∙ w .2 ∙ ap (λ (m : List ℕ). textsStored k m (p .result .to) (drop (p .result .next) (a .bytes .now))) (sym (p .ensures .leaves)))
+    let w = one-more (a .bytes .now) (l .out) (l .from) (l .end) k (p .result) (p .ensures .answers) in (
+      omega arith,
+      p .kept .1 .1 .0 ∙ l .inv .1,
+      (omega arith, omega arith),
+      v ∙ w .2
+          ∙ ap (λ (m : List ℕ). textsStored k m (p .result .to) (drop (p .result .next) (a .bytes .now))) (sym (p .ensures .leaves)),
+    )
 
 returns : tie.Need-returns Inv-loop μ-loop
 unfolding textsStored

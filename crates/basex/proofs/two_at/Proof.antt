@@ -30,14 +30,19 @@ two-at-spec =
     let a = c .before .before .before .before .before .before .args in
     let e = not-here (a .bytes .now) (a .at) _ (sym (c .before .before .before .string-at .ensures) ∙ c .before .r .given .1) in
     let m : suc (min (a .n) 2 - 1) ≡ min (a .n) 2 = let z = c .before .before .before .before .if1 .left in omega arith in
-    subst (λ (k : ℕ). Refused (c .before .r .given .0 .0) ≡ twoAt (a .at) (length (a .bytes .now) - a .at) (texts k (drop (a .at) (a .bytes .now)))) m (refused-told (a .bytes .now) (a .at) _ (min (a .n) 2 - 1) e))
+    subst (λ (k : ℕ). Refused (c .before .r .given .0 .0) ≡ twoAt (a .at) (length (a .bytes .now) - a .at) (texts k (drop (a .at) (a .bytes .now)))) m
+    (refused-told (a .bytes .now) (a .at) _ (min (a .n) 2 - 1) e))
     (λ c.
     let a = c .before .before .before .before .before .before .before .before .before .before .before .args in
-    let h = here (a .bytes .now) (a .at) _ _ (sym (c .before .before .before .before .before .before .before .before .string-at .ensures) ∙ c .before .before .before .before .before .before .len .given .1) in
+    let h = here (a .bytes .now) (a .at) _ _ (sym (c .before .before .before .before .before .before .before .before .string-at .ensures)
+    ∙ c .before .before .before .before .before .before .len .given .1) in
     let m : min (a .n) 2 ≡ 2 = let z = c .before .before .before .before .before .before .before .before .before .if1 .left in let y = c .before .before .before .before .if2 .left in omega arith in
-    rw m (second-refused (a .bytes .now) (a .at) _ _ h _ (not-here (a .bytes .now) (c .before .before .before .before .before .before .len .given .0 .1 .0) _ (sym (c .before .before .before .string-at2 .ensures) ∙ c .before .r2 .given .1))))
+    rw m (second-refused (a .bytes .now) (a .at) _ _ h _ (not-here (a .bytes .now) (c .before .before .before .before .before .before .len .given .0 .1 .0) _
+    (sym (c .before .before .before .string-at2 .ensures) ∙ c .before .r2 .given .1))))
     (λ c.
     let a = c .before .before .before .before .before .before .before .before .before .before .before .args in
-    let h = here (a .bytes .now) (a .at) _ _ (sym (c .before .before .before .before .before .before .before .before .string-at .ensures) ∙ c .before .before .before .before .before .before .len .given .1) in
+    let h = here (a .bytes .now) (a .at) _ _ (sym (c .before .before .before .before .before .before .before .before .string-at .ensures)
+    ∙ c .before .before .before .before .before .before .len .given .1) in
     let m : min (a .n) 2 ≡ 2 = let z = c .before .before .before .before .before .before .before .before .before .if1 .left in let y = c .before .before .before .before .if2 .left in omega arith in
-    rw m (two-told (a .bytes .now) (a .at) _ _ h _ _ (here (a .bytes .now) (c .before .before .before .before .before .before .len .given .0 .1 .0) _ _ (sym (c .before .before .before .string-at2 .ensures) ∙ c .before .second .given .1)))))
+    rw m (two-told (a .bytes .now) (a .at) _ _ h _ _ (here (a .bytes .now) (c .before .before .before .before .before .before .len .given .0 .1 .0) _ _
+    (sym (c .before .before .before .string-at2 .ensures) ∙ c .before .second .given .1)))))

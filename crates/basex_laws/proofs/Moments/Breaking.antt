@@ -9,7 +9,9 @@ use lib.Seq.{append-snoc}
 use Rattle.wire.specs.Fields.{Got, Field}
 use Rattle.wire.specs.Refusals.{numberOf}
 use Rattle.wire.specs.declared.Refusal.{Refusal}
-use Rattle.wire.specs.declared.Refusal.the-variants.{MoreBytes, UnknownInstruction, OtherSide, BodyTooLong, FieldCut, StringFormat, BytesLeftOver, ValueNotAllowed, OutOfOrder, NoRoom, NoEncoding, BufferOverrun, BadEscape, NoSuchPart, NotOfForm, OutOfRange}
+use Rattle.wire.specs.declared.Refusal.the-variants.{MoreBytes, UnknownInstruction, OtherSide, BodyTooLong, FieldCut, StringFormat, BytesLeftOver}
+use Rattle.wire.specs.declared.Refusal.the-variants.{ValueNotAllowed, OutOfOrder, NoRoom, NoEncoding, BufferOverrun, BadEscape, NoSuchPart, NotOfForm}
+use Rattle.wire.specs.declared.Refusal.the-variants.{OutOfRange}
 use Rattle.basex_laws.specs.Moments.{Encoded, Begun, Broken, Otherwise}
 use Rattle.basex_laws.proofs.Moments.Order.{Parting, part}
 
@@ -35,7 +37,9 @@ one? r = by r (λ k p. k (ap numberOf p))
     by NotOfForm f = inr (f (omega arith))
     by OutOfRange f = inr (f (omega arith))
 
-module _ {A : Type 0} (field : Field A) (Good : A → Type 0) (bytes : A → List ℕ) (exact : (s : List ℕ) (a : A) (rest : List ℕ) → (field s ≡ Got.got a rest) ↔ (Good a × (s ≡ bytes a ++ rest))) (more : (s : List ℕ) → (field s ≡ Got.refused MoreBytes) ↔ Begun (Encoded Good bytes) s) where
+module _ {A : Type 0} (field : Field A) (Good : A → Type 0) (bytes : A → List ℕ)
+    (exact : (s : List ℕ) (a : A) (rest : List ℕ) → (field s ≡ Got.got a rest) ↔ (Good a × (s ≡ bytes a ++ rest)))
+    (more : (s : List ℕ) → (field s ≡ Got.refused MoreBytes) ↔ Begun (Encoded Good bytes) s) where
   whole-got : (s : List ℕ) → Encoded Good bytes s → (a : A) × (field s ≡ Got.got a [])
   whole-got s w = (w .0, exact s (w .0) [] .1 (w .1, sym (w .2) ∙ sym (append-nil (bytes (w .0)))))
 
@@ -100,7 +104,11 @@ module _ {A : Type 0} (field : Field A) (Good : A → Type 0) (bytes : A → Lis
               let b = more s .0 (e ∙ ap Got.refused z) in
               let l = length-append (h .rest) (b .missing) in
               let k = b .some in
-              absurd (h .not-begun (record { missing = h .rest ++ b .missing; some = omega arith; whole = subst (Encoded Good bytes) (ap (λ (l : List ℕ). l ++ b .missing) is ∙ append-assoc here (h .rest) (b .missing)) (b .whole) }))
+              absurd (h .not-begun (record {
+                missing = h .rest ++ b .missing;
+                some = omega arith;
+                whole = subst (Encoded Good bytes) (ap (λ (l : List ℕ). l ++ b .missing) is ∙ append-assoc here (h .rest) (b .missing)) (b .whole);
+              }))
 
   pub breaking : field [] ≡ Got.refused MoreBytes → (s : List ℕ) → Otherwise (field s) ↔ Broken (Encoded Good bytes) s
   breaking none s = (λ h. walk s [] none (h .0) (h .1) (h .2), broken s)

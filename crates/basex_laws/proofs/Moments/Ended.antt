@@ -31,7 +31,8 @@ module _ (reply : Reply) where
       by true = list-more (isFull reply) (length s) s (omega arith)
       by false = (λ e. let z : _≡_ {A = ℕ} 0 1 = cc in absurd (omega arith), λ h. let k = h .some in absurd (omega (arith, ap length (h .whole .2), length-append s (h .missing))))
 
-  pub field-bad : (r : Refusal) → (r ≡ MoreBytes → ⊥) → (Bad : List ℕ → Type 0) → ((s : List ℕ) → (next (isFull reply) s ≡ Got.refused r) ↔ Bad s) → (s : List ℕ) → (listField reply s ≡ Got.refused r) ↔ (listed reply ≡ true) × Joined (ItemsAllowed (isFull reply)) itemsBytes (λ is. Bad) s
+  pub field-bad : (r : Refusal) → (r ≡ MoreBytes → ⊥) → (Bad : List ℕ → Type 0) → ((s : List ℕ) → (next (isFull reply) s ≡ Got.refused r) ↔ Bad s) → (s : List ℕ)
+      → (listField reply s ≡ Got.refused r) ↔ (listed reply ≡ true) × Joined (ItemsAllowed (isFull reply)) itemsBytes (λ is. Bad) s
   field-bad r other Bad bad s = by (listed reply)
     where
       by : (b : Bool) → (if b (list (isFull reply) s) (Got.got [] s) ≡ Got.refused r) ↔ (b ≡ true) × Joined (ItemsAllowed (isFull reply)) itemsBytes (λ is. Bad) s

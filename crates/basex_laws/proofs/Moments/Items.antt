@@ -38,7 +38,8 @@ module _ (full : Bool) where
   unfolding next
   at-id id s r = (forth (eqb id 0) refl, λ h. rw (ne-eqb id 0 (h .0)) (h .1))
     where
-      forth : (b : Bool) → eqb id 0 ≡ b → if (eqb id 0) (Got.got Next.end s) (tagged (itemStrings full id) s (made id) (idAllowed id)) ≡ Got.refused r → (id ≢ 0) × (tagged (itemStrings full id) s (made id) (idAllowed id) ≡ Got.refused r)
+      forth : (b : Bool) → eqb id 0 ≡ b → if (eqb id 0) (Got.got Next.end s) (tagged (itemStrings full id) s (made id) (idAllowed id)) ≡ Got.refused r → (id ≢ 0)
+          × (tagged (itemStrings full id) s (made id) (idAllowed id) ≡ Got.refused r)
       forth true p e = let d = rw p at e in let z : _≡_ {A = ℕ} 0 1 = cc in absurd (omega arith)
       forth false p e = (λ q. let b = eq-eqb id 0 q in let z : _≡_ {A = ℕ} 0 1 = cc in omega arith, rw p at e)
 

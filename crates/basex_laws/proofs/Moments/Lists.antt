@@ -1,6 +1,6 @@
 -- Items, then 00: 1 exactly for a beginning of a list, 8 and 13 exactly where an item behind whole ones has them.
 use mathlib.Core.Path.{_≡_, refl, sym, ap, _∙_}
-use mathlib.Core.List.{List, [], _∷_, _++_, append-assoc}
+use mathlib.Core.List.{List, [], _∷_, _++_, append-assoc, flatMap}
 use mathlib.Core.Bool.{Bool}
 use mathlib.Core.Logic.{_↔_, _⊎_, inl, inr, Iff·trans}
 use Prim.Native.Nat.{ℕ, zero, suc, _≤_, _<_}
@@ -41,7 +41,8 @@ module _ (full : Bool) where
   shorter s Next.end rest e = let l = ap length (next-is full s Next.end rest .0 e .1) in omega arith
 
   -- refused at the next item, or behind it
-  further : (n : ℕ) (s : List ℕ) (r : Refusal) (First : Type 0) (Then : Next → List ℕ → Type 0) → (next full s ≡ Got.refused r) ↔ First → ((i : Item) (rest : List ℕ) → length rest < length s → (items n full rest ≡ Got.refused r) ↔ Then (Next.item i) rest) → ((rest : List ℕ) → Then Next.end rest → ⊥)
+  further : (n : ℕ) (s : List ℕ) (r : Refusal) (First : Type 0) (Then : Next → List ℕ → Type 0) → (next full s ≡ Got.refused r) ↔ First
+      → ((i : Item) (rest : List ℕ) → length rest < length s → (items n full rest ≡ Got.refused r) ↔ Then (Next.item i) rest) → ((rest : List ℕ) → Then Next.end rest → ⊥)
       → (items (suc n) full s ≡ Got.refused r) ↔ (First ⊎ Joined (NextAllowed full) nextBytes Then s)
   further n s r First Then first later never = rw (step n s) (stops (NextAllowed full) nextBytes s (next full s) (after n) (next-is full s) r First Then first by)
     where
@@ -55,12 +56,11 @@ module _ (full : Bool) where
   Behind Next.end y = y ≡ []
 
   behind-some : (x : Next) → NextAllowed full x → (y : List ℕ) × Behind x y
-  unfolding ItemsAllowed
   behind-some (Next.item i) a = (whole [], ([], tt, refl))
   behind-some Next.end a = ([], refl)
 
   lists-forth : (e : List ℕ) → Joined (NextAllowed full) nextBytes Behind e → Encoded (ItemsAllowed full) whole e
-  unfolding ItemsAllowed itemsBytes
+  unfolding flatMap
   lists-forth e j = by (j .value) (j .left) (j .good) (j .stands) (j .then)
     where
       by : (x : Next) (left : List ℕ) → NextAllowed full x → e ≡ nextBytes x ++ left → Behind x left → Encoded (ItemsAllowed full) whole e
@@ -68,7 +68,7 @@ module _ (full : Bool) where
       by Next.end left a p t = ([], tt, ap (λ (l : List ℕ). 0 ∷ l) (sym t) ∙ sym p)
 
   lists-back : (e : List ℕ) → Encoded (ItemsAllowed full) whole e → Joined (NextAllowed full) nextBytes Behind e
-  unfolding ItemsAllowed itemsBytes
+  unfolding flatMap
   lists-back e h = by (h .0) (h .1) (h .2)
     where
       by : (is : List Item) → ItemsAllowed full is → whole is ≡ e → Joined (NextAllowed full) nextBytes Behind e
@@ -76,7 +76,7 @@ module _ (full : Bool) where
       by (i ∷ is) a p = record { value = Next.item i; left = whole is; good = a .0; stands = sym p ∙ append-assoc (itemBytes i) (itemsBytes is) (0 ∷ []); then = (is, a .1, refl) }
 
   pub list-more : (n : ℕ) (s : List ℕ) → length s ≤ n → (items n full s ≡ Got.refused MoreBytes) ↔ Begun (Encoded (ItemsAllowed full) whole) s
-  unfolding items ItemsAllowed itemsBytes
+  unfolding items flatMap
   list-more zero [] h = (λ e. record { missing = 0 ∷ []; some = omega arith; whole = ([], tt, refl) }, λ b. refl)
   list-more zero (b ∷ s) h = absurd (omega arith)
   list-more (suc n) s h =
@@ -93,21 +93,34 @@ module _ (full : Bool) where
     Later Next.end s = ⊥
 
     later-forth : (s : List ℕ) → Bad s ⊎ Joined (NextAllowed full) nextBytes Later s → Joined (ItemsAllowed full) itemsBytes (λ is. Bad) s
-    unfolding ItemsAllowed itemsBytes
+    unfolding flatMap
     later-forth s (inl b) = record { value = []; left = s; good = tt; stands = refl; then = b }
     later-forth s (inr j) = by (j .value) (j .left) (j .good) (j .stands) (j .then)
       where
         by : (x : Next) (left : List ℕ) → NextAllowed full x → s ≡ nextBytes x ++ left → Later x left → Joined (ItemsAllowed full) itemsBytes (λ is. Bad) s
-        by (Next.item i) left a p t = record { value = i ∷ t .value; left = t .left; good = (a, t .good); stands = p ∙ ap (λ (l : List ℕ). itemBytes i ++ l) (t .stands) ∙ sym (append-assoc (itemBytes i) (itemsBytes (t .value)) (t .left)); then = t .then }
+        by (Next.item i) left a p t = record {
+          value = i ∷ t .value;
+          left = t .left;
+          good = (a, t .good);
+          stands = p ∙ ap (λ (l : List ℕ). itemBytes i ++ l) (t .stands)
+              ∙ sym (append-assoc (itemBytes i) (itemsBytes (t .value)) (t .left));
+          then = t .then;
+        }
         by Next.end left a p t = absurd t
 
     later-back : (s : List ℕ) → Joined (ItemsAllowed full) itemsBytes (λ is. Bad) s → Bad s ⊎ Joined (NextAllowed full) nextBytes Later s
-    unfolding ItemsAllowed itemsBytes
+    unfolding flatMap
     later-back s j = by (j .value) (j .left) (j .good) (j .stands) (j .then)
       where
         by : (is : List Item) (left : List ℕ) → ItemsAllowed full is → s ≡ itemsBytes is ++ left → Bad left → Bad s ⊎ Joined (NextAllowed full) nextBytes Later s
         by [] left a p b = inl (rw p b)
-        by (i ∷ is) left a p b = inr (record { value = Next.item i; left = itemsBytes is ++ left; good = a .0; stands = p ∙ append-assoc (itemBytes i) (itemsBytes is) left; then = record { value = is; left = left; good = a .1; stands = refl; then = b } })
+        by (i ∷ is) left a p b = inr (record {
+          value = Next.item i;
+          left = itemsBytes is ++ left;
+          good = a .0;
+          stands = p ∙ append-assoc (itemBytes i) (itemsBytes is) left;
+          then = record { value = is; left = left; good = a .1; stands = refl; then = b };
+        })
 
     pub list-bad : (n : ℕ) (s : List ℕ) → length s ≤ n → (items n full s ≡ Got.refused r) ↔ Joined (ItemsAllowed full) itemsBytes (λ is. Bad) s
     unfolding items next

@@ -58,7 +58,14 @@ module _ {A : Type 0} (Good : A → Type 0) (bytes : A → List ℕ) (Then : A �
           record {
             missing = h .missing;
             some = h .some;
-            whole = record { value = j .value; left = j .left ++ h .missing; good = j .good; stands = ap (λ (l : List ℕ). l ++ h .missing) (j .stands) ∙ append-assoc (bytes (j .value)) (j .left) (h .missing); then = h .whole };
+            whole = record {
+              value = j .value;
+              left = j .left ++ h .missing;
+              good = j .good;
+              stands = ap (λ (l : List ℕ). l ++ h .missing) (j .stands)
+                  ∙ append-assoc (bytes (j .value)) (j .left) (h .missing);
+              then = h .whole;
+            };
           }
 
       back : Begun (Joined Good bytes Then) s → Begun (Encoded Good bytes) s ⊎ Joined Good bytes (λ a. Begun (Then a)) s
@@ -66,10 +73,17 @@ module _ {A : Type 0} (Good : A → Type 0) (bytes : A → List ℕ) (Then : A �
         where
           by : Parting (bytes (h .whole .value)) (h .whole .left) s (h .missing) → Begun (Encoded Good bytes) s ⊎ Joined Good bytes (λ a. Begun (Then a)) s
           by (Parting.inside z k p) = inl (record { missing = z; some = k; whole = (h .whole .value, h .whole .good, p) })
-          by (Parting.past z p q) = inr (record { value = h .whole .value; left = z; good = h .whole .good; stands = p; then = record { missing = h .missing; some = h .some; whole = subst (Then (h .whole .value)) q (h .whole .then) } })
+          by (Parting.past z p q) = inr (record {
+            value = h .whole .value;
+            left = z;
+            good = h .whole .good;
+            stands = p;
+            then = record { missing = h .missing; some = h .some; whole = subst (Then (h .whole .value)) q (h .whole .then) };
+          })
 
 -- a field that was read exactly, and what follows it: refused at the first, or at the next behind the encoding of a value
-module _ {A B : Type 0} (Good : A → Type 0) (bytes : A → List ℕ) (s : List ℕ) (x : Got A) (next : A → Field B) (exact : (a : A) (rest : List ℕ) → (x ≡ Got.got a rest) ↔ (Good a × (s ≡ bytes a ++ rest))) (r : Refusal) where
+module _ {A B : Type 0} (Good : A → Type 0) (bytes : A → List ℕ) (s : List ℕ) (x : Got A) (next : A → Field B)
+    (exact : (a : A) (rest : List ℕ) → (x ≡ Got.got a rest) ↔ (Good a × (s ≡ bytes a ++ rest))) (r : Refusal) where
   pub stops : (First : Type 0) (Then : A → List ℕ → Type 0) → (x ≡ Got.refused r) ↔ First → ((a : A) (rest : List ℕ) → x ≡ Got.got a rest → (next a rest ≡ Got.refused r) ↔ Then a rest)
       → (goOn x next ≡ Got.refused r) ↔ (First ⊎ Joined Good bytes Then s)
   stops First Then first later = (λ e. forth (stopped x next r e), back)
@@ -96,7 +110,8 @@ made x value r = (by x, ap (λ (y : Got _). goOn y (λ a. give (value a))))
 
 -- where a refusal other than 1 stands whatever follows, a beginning is refused with 1: its whole is read
 module _ {A : Type 0} (field : Field A) (Good : A → Type 0) (bytes : A → List ℕ) (exact : (s : List ℕ) (a : A) (rest : List ℕ) → (field s ≡ Got.got a rest) ↔ (Good a × (s ≡ bytes a ++ rest))) where
-  pub begun-short : ((s : List ℕ) (r : Refusal) → field s ≡ Got.refused r → (r ≡ MoreBytes) ⊎ ((more : List ℕ) → field (s ++ more) ≡ Got.refused r)) → (s : List ℕ) → Begun (Encoded Good bytes) s → field s ≡ Got.refused MoreBytes
+  pub begun-short : ((s : List ℕ) (r : Refusal) → field s ≡ Got.refused r → (r ≡ MoreBytes) ⊎ ((more : List ℕ) → field (s ++ more) ≡ Got.refused r)) → (s : List ℕ)
+      → Begun (Encoded Good bytes) s → field s ≡ Got.refused MoreBytes
   begun-short stays s h = by (field s) refl
     where
       whole : field (s ++ h .missing) ≡ Got.got (h .whole .0) []

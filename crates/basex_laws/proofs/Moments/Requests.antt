@@ -1,6 +1,6 @@
 -- Requests: 1, 2 and 13 exactly.
 use mathlib.Core.Path.{_≡_, refl, sym, ap, _∙_}
-use mathlib.Core.List.{List, [], _∷_, _++_, append-nil}
+use mathlib.Core.List.{List, [], _∷_, _++_, append-nil, flatMap}
 use mathlib.Core.Bool.{Bool, true, false}
 use mathlib.Core.Logic.{_↔_, _⊎_, inl, inr}
 use Prim.Native.Nat.{ℕ}
@@ -18,7 +18,7 @@ use Rattle.basex.specs.declared.Reply.{Reply}
 use Rattle.basex.specs.declared.Reply.the-variants.{Query}
 use Rattle.basex.specs.Kinds.{kinds, search, findOf, isCommand, startsCommand}
 use Rattle.basex.specs.Request.{Request, encode, Published}
-use Rattle.basex.specs.Texts.{texts, strings}
+use Rattle.basex.specs.Texts.{texts}
 use Rattle.basex.proofs.Texts.{texts-refuses}
 use Rattle.basex_request.specs.Reading.{fieldsOf, reading}
 use Rattle.basex_request.proofs.Behind.{refused-behind}
@@ -46,7 +46,8 @@ module _ (b : ℕ) (s : List ℕ) (r : Refusal) where
       by Unknown k e = Where.unknown k (cc)
       by (Known n reply) k e = which (isCommand reply) refl e
         where
-          which : (c : Bool) → isCommand reply ≡ c → if c (goOn (scan.reading (b ∷ s)) (λ t. give (Request.command t))) (goOn (texts n s) (λ ts. give (Request.coded b ts))) ≡ Got.refused r → Where b s r
+          which : (c : Bool) → isCommand reply ≡ c → if c (goOn (scan.reading (b ∷ s)) (λ t. give (Request.command t))) (goOn (texts n s) (λ ts. give (Request.coded b ts)))
+              ≡ Got.refused r → Where b s r
           which true c e = Where.command (command-starts b n reply k c) (made (scan.reading (b ∷ s)) Request.command r .0 e)
           which false c e = Where.coded n reply k c (made (texts n s) (Request.coded b) r .0 e)
 
@@ -58,7 +59,7 @@ module _ (b : ℕ) (s : List ℕ) (r : Refusal) where
 
 -- a beginning of a published request is completed where it was cut
 short : (s : List ℕ) → reading s ≡ Got.refused MoreBytes → Begun (Encoded Published encode) s
-unfolding encode strings string findOf kinds search
+unfolding encode flatMap string findOf kinds search
 short [] e = record { missing = 0 ∷ 0 ∷ []; some = omega arith; whole = (Request.coded 0 ([] ∷ []), (Query, refl, refl), refl) }
 short (b ∷ s) e = by (located b s MoreBytes e)
   where
@@ -70,7 +71,16 @@ short (b ∷ s) e = by (located b s MoreBytes e)
         record { missing = g .missing; some = g .some; whole = (Request.command t, opened t [] (s ++ g .missing) b (sym (g .whole .2) ∙ sym (append-nil _)) h, g .whole .2) }
     by (Where.coded n reply k c e) =
         let g = texts-more n s .0 e in
-        record { missing = g .missing; some = g .some; whole = (Request.coded b (g .whole .0), (reply, k ∙ ap (λ (m : ℕ). Known m reply) (sym (g .whole .1)), c), ap (λ (l : List ℕ). b ∷ l) (g .whole .2)) }
+        record {
+          missing = g .missing;
+          some = g .some;
+          whole = (
+            Request.coded b (g .whole .0),
+            (reply, k ∙ ap (λ (m : ℕ). Known m reply) (sym (g .whole .1)), c),
+            ap
+                (λ (l : List ℕ). b ∷ l) (g .whole .2),
+          );
+        }
 
 stays : (s : List ℕ) (r : Refusal) → reading s ≡ Got.refused r → (r ≡ MoreBytes) ⊎ ((more : List ℕ) → reading (s ++ more) ≡ Got.refused r)
 stays s r e = by (reading-refuses s r e)

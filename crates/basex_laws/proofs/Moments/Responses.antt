@@ -36,21 +36,23 @@ module _ (reply : Reply) where
   list-is s is rest = (list-exact reply s is rest, λ h. ap (listField reply) (h .1) ∙ list-written reply is rest (h .0))
 
   -- refused in the list's place, or behind it
-  middle : (r : Refusal) (Second Third : List ℕ → Type 0) → ((s : List ℕ) → (listField reply s ≡ Got.refused r) ↔ Second s) → ((ts : List (List ℕ)) (is : List Item) (s : List ℕ) → (ended reply ts is s ≡ Got.refused r) ↔ Third s)
+  middle : (r : Refusal) (Second Third : List ℕ → Type 0) → ((s : List ℕ) → (listField reply s ≡ Got.refused r) ↔ Second s)
+      → ((ts : List (List ℕ)) (is : List Item) (s : List ℕ) → (ended reply ts is s ≡ Got.refused r) ↔ Third s)
       → (ts : List (List ℕ)) (s : List ℕ) → (goOn (listField reply s) (ended reply ts) ≡ Got.refused r) ↔ (Second s ⊎ Joined Items (listBytes reply) (λ is. Third) s)
   middle r Second Third second third ts s = stops Items (listBytes reply) s (listField reply s) (ended reply ts) (list-is s) r (Second s) (λ is. Third) (second s) (λ is rest e. third ts is rest)
 
   -- refused in the strings ahead, or behind them
-  whole : (r : Refusal) (First : Type 0) (Then : List ℕ → Type 0) (s : List ℕ) → (texts (ahead reply) s ≡ Got.refused r) ↔ First → ((ts : List (List ℕ)) (rest : List ℕ) → (goOn (listField reply rest) (ended reply ts) ≡ Got.refused r) ↔ Then rest)
+  whole : (r : Refusal) (First : Type 0) (Then : List ℕ → Type 0) (s : List ℕ) → (texts (ahead reply) s ≡ Got.refused r) ↔ First
+      → ((ts : List (List ℕ)) (rest : List ℕ) → (goOn (listField reply rest) (ended reply ts) ≡ Got.refused r) ↔ Then rest)
       → (fieldsOf reply s ≡ Got.refused r) ↔ (First ⊎ Joined (Many (ahead reply)) strings (λ ts. Then) s)
-  whole r First Then s first then = rw (fields-are reply s) (stops (Many (ahead reply)) strings s (texts (ahead reply) s) (λ ts rest. goOn (listField reply rest) (ended reply ts)) (many-exact (ahead reply) s) r First (λ ts. Then) first (λ ts rest e. then ts rest))
+  whole r First Then s first then = rw (fields-are reply s) (stops (Many (ahead reply)) strings s (texts (ahead reply) s)
+      (λ ts rest. goOn (listField reply rest) (ended reply ts)) (many-exact (ahead reply) s) r First (λ ts. Then) first (λ ts rest e. then ts rest))
 
   -- the encodings behind the strings ahead: the list, and the end
   abbrev Behind : List ℕ → Type 0
   Behind = Joined Items (listBytes reply) (λ is. Encoded (EndAllowed reply) (endBytes reply))
 
   behind-some : (y : List ℕ) × Behind y
-  unfolding ItemsAllowed
   behind-some =
       let e = end-some reply in
       (listBytes reply [] ++ e .0, record { value = []; left = e .0; good = by (listed reply); stands = refl; then = e .1 })
@@ -63,8 +65,12 @@ module _ (reply : Reply) where
   unfolding encode
   encoded-forth e j =
       let k = j .then in
-      let d = k .then in
-      (record { texts = j .value; items = k .value; status = d .0 .0; error = d .0 .1 }, record { first = j .good; list = k .good; ended = d .1 .0; last = d .1 .1 }, ap (λ (l : List ℕ). strings (j .value) ++ l) (ap (λ (l : List ℕ). listBytes reply (k .value) ++ l) (d .2) ∙ sym (k .stands)) ∙ sym (j .stands))
+      let d = k .then in (
+        record { texts = j .value; items = k .value; status = d .0 .0; error = d .0 .1 },
+        record { first = j .good; list = k .good; ended = d .1 .0; last = d .1 .1 },
+        ap
+            (λ (l : List ℕ). strings (j .value) ++ l) (ap (λ (l : List ℕ). listBytes reply (k .value) ++ l) (d .2) ∙ sym (k .stands)) ∙ sym (j .stands),
+      )
 
   encoded-back : (e : List ℕ) → Encoded (Published reply) (encode reply) e → Joined (Many (ahead reply)) strings (λ ts. Behind) e
   unfolding encode
@@ -119,23 +125,39 @@ module _ (reply : Reply) where
             by : Later (j .left) → Met First AtItems AtEnd s
             by (inl h) =
                 let k = h .1 in
-                Met.item (strings (j .value) ++ itemsBytes (k .value)) (k .left) (front (itemsBytes (k .value)) (k .left) (k .stands)) (record { texts = j .value; items = k .value; first = j .good; has = h .0; allowed = k .good; is = refl }) (k .then)
-            by (inr k) = Met.end (strings (j .value) ++ listBytes reply (k .value)) (k .left) (front (listBytes reply (k .value)) (k .left) (k .stands)) (record { texts = j .value; items = k .value; first = j .good; allowed = k .good; is = refl }) (k .then)
+                Met.item (strings (j .value) ++ itemsBytes (k .value)) (k .left) (front (itemsBytes (k .value)) (k .left) (k .stands))
+                (record { texts = j .value; items = k .value; first = j .good; has = h .0; allowed = k .good; is = refl }) (k .then)
+            by (inr k) = Met.end (strings (j .value) ++ listBytes reply (k .value)) (k .left) (front (listBytes reply (k .value)) (k .left) (k .stands))
+                (record { texts = j .value; items = k .value; first = j .good; allowed = k .good; is = refl }) (k .then)
 
         stand : (front left : List ℕ) (ts : List (List ℕ)) (x : List ℕ) → s ≡ front ++ left → front ≡ strings ts ++ x → s ≡ strings ts ++ (x ++ left)
         stand front left ts x p q = p ∙ ap (λ (l : List ℕ). l ++ left) q ∙ append-assoc (strings ts) x left
 
         back : Met First AtItems AtEnd s → First ⊎ Joined (Many (ahead reply)) strings (λ ts. Later) s
         back (Met.first f) = inl f
-        back (Met.item front left p a b) = inr (record { value = a .texts; left = itemsBytes (a .items) ++ left; good = a .first; stands = stand front left (a .texts) (itemsBytes (a .items)) p (a .is); then = inl (a .has, record { value = a .items; left = left; good = a .allowed; stands = refl; then = b }) })
-        back (Met.end front left p a b) = inr (record { value = a .texts; left = listBytes reply (a .items) ++ left; good = a .first; stands = stand front left (a .texts) (listBytes reply (a .items)) p (a .is); then = inr (record { value = a .items; left = left; good = a .allowed; stands = refl; then = b }) })
+        back (Met.item front left p a b) = inr (record {
+          value = a .texts;
+          left = itemsBytes (a .items) ++ left;
+          good = a .first;
+          stands = stand front left (a .texts) (itemsBytes (a .items)) p (a .is);
+          then = inl (a .has, record { value = a .items; left = left; good = a .allowed; stands = refl; then = b });
+        })
+        back (Met.end front left p a b) = inr (record {
+          value = a .texts;
+          left = listBytes reply (a .items) ++ left;
+          good = a .first;
+          stands = stand front left (a .texts) (listBytes reply (a .items)) p (a .is);
+          then = inr (record { value = a .items; left = left; good = a .allowed; stands = refl; then = b });
+        })
 
-    fields-met : (r : Refusal) → (r ≡ MoreBytes → ⊥) → (First : Type 0) (s : List ℕ) → (texts (ahead reply) s ≡ Got.refused r) ↔ First → ((s : List ℕ) → (next (isFull reply) s ≡ Got.refused r) ↔ AtItems s) → ((ts : List (List ℕ)) (is : List Item) (s : List ℕ) → (ended reply ts is s ≡ Got.refused r) ↔ AtEnd s)
+    fields-met : (r : Refusal) → (r ≡ MoreBytes → ⊥) → (First : Type 0) (s : List ℕ) → (texts (ahead reply) s ≡ Got.refused r) ↔ First
+        → ((s : List ℕ) → (next (isFull reply) s ≡ Got.refused r) ↔ AtItems s) → ((ts : List (List ℕ)) (is : List Item) (s : List ℕ) → (ended reply ts is s ≡ Got.refused r) ↔ AtEnd s)
         → (fieldsOf reply s ≡ Got.refused r) ↔ Met First AtItems AtEnd s
     fields-met r other First s texts-are items-are end-is = Iff·trans (whole r First Later s texts-are (middle r Listed AtEnd (field-bad reply r other AtItems items-are) end-is)) (met First s)
 
   fields-value : (s : List ℕ) → (fieldsOf reply s ≡ Got.refused ValueNotAllowed) ↔ BadValue reply s
-  fields-value s = Iff·trans (fields-met BadId (BadStatus reply) ValueNotAllowed other ⊥ s (texts-no-value (ahead reply) s, λ f. absurd f) (item-moments (isFull reply) .value) (end-value reply)) (forth, back)
+  fields-value s = Iff·trans (fields-met BadId (BadStatus reply) ValueNotAllowed other ⊥ s (texts-no-value (ahead reply) s, λ f. absurd f) (item-moments (isFull reply) .value)
+      (end-value reply)) (forth, back)
     where
       other : ValueNotAllowed ≡ MoreBytes → ⊥
       other p = let z : _≡_ {A = ℕ} 0 1 = cc in omega arith
@@ -150,7 +172,8 @@ module _ (reply : Reply) where
       back (BadValue.status front b rest p a h) = Met.end front (b ∷ rest) p a (b, rest, refl, h)
 
   fields-pair : (s : List ℕ) → (fieldsOf reply s ≡ Got.refused BadEscape) ↔ BadText reply s
-  fields-pair s = Iff·trans (fields-met (BadItem (isFull reply)) (BadError reply) BadEscape other (BadTexts (ahead reply) s) s (texts-pair (ahead reply) s) (item-moments (isFull reply) .pair) (end-pair reply)) (forth, back)
+  fields-pair s = Iff·trans (fields-met (BadItem (isFull reply)) (BadError reply) BadEscape other (BadTexts (ahead reply) s) s (texts-pair (ahead reply) s)
+      (item-moments (isFull reply) .pair) (end-pair reply)) (forth, back)
     where
       other : BadEscape ≡ MoreBytes → ⊥
       other p = let z : _≡_ {A = ℕ} 0 1 = cc in omega arith
@@ -185,7 +208,8 @@ module _ (kind : ℕ) where
       forth (Known n reply) k e = absurd (never (fields-refuse reply UnknownInstruction (b ∷ s) (sym (reading-known kind n reply k (b ∷ s)) ∙ e)))
 
   -- of a known kind, what is known of its fields
-  as-fields : (n : ℕ) (reply : Reply) → findOf kind ≡ Known n reply → (r : Refusal) (Bad : List ℕ → Type 0) → ((s : List ℕ) → (fieldsOf reply s ≡ Got.refused r) ↔ Bad s) → (s : List ℕ) → (reading kind s ≡ Got.refused r) ↔ Bad s
+  as-fields : (n : ℕ) (reply : Reply) → findOf kind ≡ Known n reply → (r : Refusal) (Bad : List ℕ → Type 0) → ((s : List ℕ) → (fieldsOf reply s ≡ Got.refused r) ↔ Bad s)
+      → (s : List ℕ) → (reading kind s ≡ Got.refused r) ↔ Bad s
   as-fields n reply k r Bad bad s = rw (reading-known kind n reply k s) (bad s)
 
   pub response-moments : ResponseMoments kind

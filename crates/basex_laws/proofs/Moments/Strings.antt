@@ -35,7 +35,11 @@ endless s e = by (why s MoreBytes e) refl
 
     by : {q : Refusal} → Why s q → q ≡ MoreBytes → Begun (Encoded Any string) s
     by (Why.endless t p) h = record { missing = 0 ∷ []; some = omega arith; whole = (t, tt, string-body t ∙ body-begun t (0 ∷ []) ∙ ends t [] (0 ∷ []) p) }
-    by (Why.half t p) h = record { missing = 0 ∷ 0 ∷ []; some = omega arith; whole = (t ++ (0 ∷ []), tt, string-body (t ++ (0 ∷ [])) ∙ body-begun (t ++ (0 ∷ [])) (0 ∷ []) ∙ begun-more t (0 ∷ []) (0 ∷ []) ∙ ends t (255 ∷ []) (0 ∷ 0 ∷ []) p) }
+    by (Why.half t p) h = record {
+      missing = 0 ∷ 0 ∷ [];
+      some = omega arith;
+      whole = (t ++ (0 ∷ []), tt, string-body (t ++ (0 ∷ [])) ∙ body-begun (t ++ (0 ∷ [])) (0 ∷ []) ∙ begun-more t (0 ∷ []) (0 ∷ []) ∙ ends t (255 ∷ []) (0 ∷ 0 ∷ []) p);
+    }
     by (Why.bad t c rest o p) h = let z : _≡_ {A = ℕ} 0 1 = cc in absurd (omega arith)
 
 pub string-exact : (s t rest : List ℕ) → (reading s ≡ Got.got t rest) ↔ (Any t × (s ≡ string t ++ rest))

@@ -1,6 +1,6 @@
 -- Strings one behind the other: 1 and 13 exactly, from what is known of one.
 use mathlib.Core.Path.{_≡_, refl, sym, ap, _∙_}
-use mathlib.Core.List.{List, [], _∷_, _++_, append-assoc}
+use mathlib.Core.List.{List, [], _∷_, _++_, append-assoc, flatMap}
 use mathlib.Core.Logic.{_↔_, _⊎_, inl, inr, Iff·trans}
 use Prim.Native.Nat.{ℕ, zero, suc, _<_}
 use native.Mathlib.Omega.{arith}
@@ -37,9 +37,11 @@ some-texts n = (strings (none n), (none n, count n, refl))
 
 module _ (n : ℕ) (s : List ℕ) (r : Refusal) where
   -- refused at the first, or at the n behind it
-  further : (First : Type 0) (Then : List ℕ → Type 0) → (reading s ≡ Got.refused r) ↔ First → ((rest : List ℕ) → (texts n rest ≡ Got.refused r) ↔ Then rest) → (texts (suc n) s ≡ Got.refused r) ↔ (First ⊎ Joined Any string (λ t. Then) s)
+  further : (First : Type 0) (Then : List ℕ → Type 0) → (reading s ≡ Got.refused r) ↔ First → ((rest : List ℕ) → (texts n rest ≡ Got.refused r) ↔ Then rest)
+      → (texts (suc n) s ≡ Got.refused r) ↔ (First ⊎ Joined Any string (λ t. Then) s)
   unfolding texts
-  further First Then first later = stops Any string s (reading s) (λ t rest. goOn (texts n rest) (λ ts. give (t ∷ ts))) (string-exact s) r First (λ t. Then) first (λ t rest e. Iff·trans (made (texts n rest) (λ ts. t ∷ ts) r) (later rest))
+  further First Then first later = stops Any string s (reading s) (λ t rest. goOn (texts n rest) (λ ts. give (t ∷ ts))) (string-exact s) r First (λ t. Then) first
+      (λ t rest e. Iff·trans (made (texts n rest) (λ ts. t ∷ ts) r) (later rest))
 
 -- none at all are never refused
 never : (s : List ℕ) (r : Refusal) → texts 0 s ≡ Got.refused r → ⊥
@@ -47,11 +49,11 @@ never s r e = let g : Got.got [] s ≡ Got.refused r = sym (texts-none s) ∙ e 
 
 module _ (n : ℕ) where
   strings-forth : (e : List ℕ) → Joined Any string (λ t. Encoded (Many n) strings) e → Encoded (Many (suc n)) strings e
-  unfolding strings
+  unfolding flatMap
   strings-forth e j = (j .value ∷ j .then .0, ap suc (j .then .1), ap (λ (l : List ℕ). string (j .value) ++ l) (j .then .2) ∙ sym (j .stands))
 
   strings-back : (e : List ℕ) → Encoded (Many (suc n)) strings e → Joined Any string (λ t. Encoded (Many n) strings) e
-  unfolding strings
+  unfolding flatMap
   strings-back e h = by (h .0) (h .1) (h .2)
     where
       by : (ts : List (List ℕ)) → length ts ≡ suc n → strings ts ≡ e → Joined Any string (λ t. Encoded (Many n) strings) e
@@ -59,23 +61,36 @@ module _ (n : ℕ) where
       by (t ∷ ts) l p = record { value = t; left = strings ts; good = tt; stands = sym p; then = (ts, omega arith, refl) }
 
   bad-forth : (s : List ℕ) → BadPair s ⊎ Joined Any string (λ t. BadTexts n) s → BadTexts (suc n) s
-  unfolding strings
+  unfolding flatMap
   bad-forth s (inl h) = record { texts = []; left = s; few = omega arith; stands = refl; bad = h }
   bad-forth s (inr j) =
       let h = j .then in
       let k = h .few in
-      record { texts = j .value ∷ h .texts; left = h .left; few = omega arith; stands = j .stands ∙ ap (λ (l : List ℕ). string (j .value) ++ l) (h .stands) ∙ sym (append-assoc (string (j .value)) (strings (h .texts)) (h .left)); bad = h .bad }
+      record {
+        texts = j .value ∷ h .texts;
+        left = h .left;
+        few = omega arith;
+        stands = j .stands ∙ ap (λ (l : List ℕ). string (j .value) ++ l) (h .stands)
+            ∙ sym (append-assoc (string (j .value)) (strings (h .texts)) (h .left));
+        bad = h .bad;
+      }
 
   bad-back : (s : List ℕ) → BadTexts (suc n) s → BadPair s ⊎ Joined Any string (λ t. BadTexts n) s
-  unfolding strings
+  unfolding flatMap
   bad-back s h = by (h .texts) (h .left) (h .few) (h .stands) (h .bad)
     where
       by : (ts : List (List ℕ)) (left : List ℕ) → length ts < suc n → s ≡ strings ts ++ left → BadPair left → BadPair s ⊎ Joined Any string (λ t. BadTexts n) s
       by [] left k p b = inl (rw p b)
-      by (t ∷ ts) left k p b = inr (record { value = t; left = strings ts ++ left; good = tt; stands = p ∙ append-assoc (string t) (strings ts) left; then = record { texts = ts; left = left; few = omega arith; stands = refl; bad = b } })
+      by (t ∷ ts) left k p b = inr (record {
+        value = t;
+        left = strings ts ++ left;
+        good = tt;
+        stands = p ∙ append-assoc (string t) (strings ts) left;
+        then = record { texts = ts; left = left; few = omega arith; stands = refl; bad = b };
+      })
 
 pub texts-more : (n : ℕ) (s : List ℕ) → (texts n s ≡ Got.refused MoreBytes) ↔ Begun (Encoded (Many n) strings) s
-unfolding strings
+unfolding flatMap
 texts-more zero s = (λ e. absurd (never s MoreBytes e), λ h. absurd (none (h .whole .0) (h .missing) (h .whole .1) (h .some) (h .whole .2)))
   where
     none : (ts : List (List ℕ)) (more : List ℕ) → length ts ≡ 0 → 0 < length more → strings ts ≡ s ++ more → ⊥

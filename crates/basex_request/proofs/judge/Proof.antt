@@ -18,12 +18,15 @@ judge-spec =
     (λ c κs. at-most-four _ _ _ (sym (c .before .before .before .before .before .find .ensures) ∙ c .before .before .before .n .given .1))
     (λ c κs. at-most-four _ _ _ (sym (c .before .before .before .before .before .find .ensures) ∙ c .before .before .before .n .given .1))
     (λ c.
-    unknown-judged (c .before .before .before .before .before .before .args .bytes .now) (c .before .before .before .before .if1 .left) (sym (c .before .before .find .ensures) ∙ c .enum-told .given .1))
+    unknown-judged (c .before .before .before .before .before .before .args .bytes .now) (c .before .before .before .before .if1 .left)
+    (sym (c .before .before .find .ensures) ∙ c .enum-told .given .1))
     (λ c.
     let s = c .before .before .before .before .before .before .before .before .before .before .args .bytes .now in
     let f = sym (c .before .before .before .before .before .before .find .ensures) ∙ c .before .before .before .before .n .given .1 in
-    c .strings-from .ensures ∙ command-judged s (c .before .before .before .before .before .before .before .before .if1 .left) _ _ f (sym (c .before .before .is-command .ensures) ∙ c .before .if2 .taken))
+    c .strings-from .ensures ∙ command-judged s (c .before .before .before .before .before .before .before .before .if1 .left) _ _ f
+    (sym (c .before .before .is-command .ensures) ∙ c .before .if2 .taken))
     (λ c.
     let s = c .before .before .before .before .before .before .before .before .before .before .args .bytes .now in
     let f = sym (c .before .before .before .before .before .before .find .ensures) ∙ c .before .before .before .before .n .given .1 in
-    c .strings-from2 .ensures ∙ coded-judged s (c .before .before .before .before .before .before .before .before .if1 .left) _ _ f (sym (c .before .before .is-command .ensures) ∙ c .before .if2 .left)))
+    c .strings-from2 .ensures ∙ coded-judged s (c .before .before .before .before .before .before .before .before .if1 .left) _ _ f
+    (sym (c .before .before .is-command .ensures) ∙ c .before .if2 .left)))

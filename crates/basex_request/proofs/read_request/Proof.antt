@@ -33,6 +33,7 @@ read-request-spec =
     (λ c. search needs)
     (λ c.
     let a = c .before .before .before .before .before .before .before .before .before .before .before .args in
-    let w = whole (a .bytes .now) _ _ _ _ _ _ _ _ (sym (c .before .before .before .before .before .before .kind .given .1) ∙ c .before .before .before .before .before .before .before .before .judge .ensures) in
+    let w = whole (a .bytes .now) _ _ _ _ _ _ _ _ (sym (c .before .before .before .before .before .before .kind .given .1)
+    ∙ c .before .before .before .before .before .before .before .before .judge .ensures) in
     let r = whole-read (a .bytes .now) (a .out .now) _ _ _ _ _ _ _ _ w (c .before .before .before .before .if1 .left) in
     record { answers = r .answers; leaves = c .before .before .store-judged-texts .ensures .leaves ∙ r .leaves }))

@@ -10,7 +10,8 @@ returns c =
     let a = c .before .before .before .before .before .before .before .before .before .before .before .before .before .before .before .before .before .args in
     let w = c .before .before .write-command in
     let ts = (four (a .first .now) (a .second .now) (a .third .now) (a .fourth .now)) in
-    let f = sym (c .before .before .before .before .before .before .before .before .before .before .before .find .ensures) ∙ c .before .before .before .before .before .before .before .before .before .n .given .1 in
+    let f = sym (c .before .before .before .before .before .before .before .before .before .before .before .find .ensures)
+    ∙ c .before .before .before .before .before .before .before .before .before .n .given .1 in
     let u = sym (c .before .before .before .before .before .before .before .takes .ensures) ∙ c .before .before .before .before .before .before .if1 .taken in
     let q = command-request (a .kind) ts _ _ f (sym (c .before .before .before .before .before .is-command .ensures) ∙ c .before .before .before .before .if2 .taken) in
     known-written (a .kind) ts _ _ f (a .out .now) _ u q (w .ensures)
@@ -20,7 +21,8 @@ returns-2 c =
     let a = c .before .before .before .before .before .before .before .before .before .before .before .before .before .before .before .before .before .args in
     let w = c .before .before .write-coded in
     let ts = (four (a .first .now) (a .second .now) (a .third .now) (a .fourth .now)) in
-    let f = sym (c .before .before .before .before .before .before .before .before .before .before .before .find .ensures) ∙ c .before .before .before .before .before .before .before .before .before .n .given .1 in
+    let f = sym (c .before .before .before .before .before .before .before .before .before .before .before .find .ensures)
+    ∙ c .before .before .before .before .before .before .before .before .before .n .given .1 in
     let u = sym (c .before .before .before .before .before .before .before .takes .ensures) ∙ c .before .before .before .before .before .before .if1 .taken in
     let q = coded-request (a .kind) ts _ _ f (sym (c .before .before .before .before .before .is-command .ensures) ∙ c .before .before .before .before .if2 .left) in
     known-written (a .kind) ts _ _ f (a .out .now) _ u q (w .ensures)

@@ -3,10 +3,8 @@ use mathlib.Core.List.{List}
 use Prim.Native.Nat.{ℕ, _+_, _-_}
 use lib.ListN.{length}
 use Rattle.wire.specs.Fields.{Got}
-use Rattle.basex.specs.Request.{Request}
-use Rattle.basex.specs.Texts.{lengthAt}
-use Rattle.basex_request.specs.declared.RequestAt.{RequestAt}
-use Rattle.basex_request.specs.Reading.{kindOf, textsOf}
+use Rattle.basex.specs.{Request.Request, Texts.lengthAt}
+use Rattle.basex_request.specs.{declared.RequestAt.RequestAt, Reading.kindOf, Reading.textsOf}
 
 -- where a request's strings start: the first byte of a COMMAND is text
 abbrev pub fromOf : Request → ℕ

@@ -1,19 +1,12 @@
 -- What the reader's steps answer, one for each part of a response, and what it may rely on when it stores.
-use mathlib.Core.List.{List, [], flatten}
-use mathlib.Core.Path.{_≡_}
+use mathlib.Core.{List.List, List.[], List.flatten, Path._≡_}
 use Prim.Native.Nat.{ℕ, _+_, _-_, _≤_}
 use lib.ListN.{length}
-use Rattle.wire.specs.Bytes.{splice}
-use Rattle.wire.specs.Fields.{Got, Field, _>>=_, _>>_, give, required}
+use Rattle.wire.specs.{Bytes.splice, Fields.Got, Fields.Field, Fields._>>=_, Fields._>>_, Fields.give, Fields.required}
 use Rattle.wire.specs.declared.Refusal.the-variants.{ValueNotAllowed}
-use Rattle.basex.specs.declared.Reply.{Reply}
-use Rattle.basex.specs.Kinds.{behind, statusAllowed}
-use Rattle.basex.specs.Response.{Item, Response}
+use Rattle.basex.specs.{declared.Reply.Reply, Kinds.behind, Kinds.statusAllowed, Response.Item, Response.Response}
 use Rattle.basex.specs.Texts.{texts, lengthAt, TextsStored}
-use Rattle.basex_response.specs.declared.Replied.{Replied}
-use Rattle.basex_response.specs.declared.items.ItemsAt.{ItemsAt}
-use Rattle.basex_response.specs.declared.read.EndAt.{EndAt}
-use Rattle.basex_response.specs.Items.{itemTexts}
+use Rattle.basex_response.specs.{declared.items.ItemsAt.ItemsAt, declared.read.EndAt.EndAt, Items.itemTexts}
 use Rattle.basex_response.specs.Reading.{byteField, allTexts}
 
 -- of n bytes from `at` on, a list: how many items, how long their texts are together, and where what follows starts
@@ -37,13 +30,6 @@ ending reply = do
 abbrev pub endAt : ℕ → ℕ → Got Ending → EndAt
 endAt at n (Got.refused r) = EndAt.Refused r
 endAt at n (Got.got e rest) = EndAt.At (e .status) (lengthAt (e .error) 0) (at + (n - length rest))
-
--- what reading n bytes answers where there is room
-abbrev pub judgement : ℕ → Got Response → Replied
-judgement n (Got.refused r) = Replied.Refused r
-judgement n (Got.got p rest) =
-    Replied.Read (lengthAt (p .texts) 0) (lengthAt (p .texts) 1) (length (p .items)) (length (flatten (itemTexts (p .items)))) (p .status)
-    (lengthAt (p .error) 0) (n - length rest)
 
 -- a list was read with so many items, and their texts fit from `to` on
 abbrev pub ListFits : ℕ → ℕ → ℕ → Got (List Item) → Type 0

@@ -1,17 +1,10 @@
 -- What the writer's steps put, one behind the other.
-use mathlib.Core.Bool.{Bool, true, false}
-use mathlib.Core.List.{List, [], _∷_, _++_}
+use mathlib.Core.{Bool.Bool, Bool.true, Bool.false, List.List, List.[], List._∷_, List._++_}
 use Prim.Native.Nat.{ℕ}
-use lib.Dec.{ltb, eqb}
-use lib.ListN.{length}
+use lib.{Dec.ltb, Dec.eqb, ListN.length}
 use Rattle.wire.specs.Bytes.{if}
 use Rattle.basex_string.specs.Strings.{string}
-use Rattle.basex.specs.declared.Reply.{Reply}
-use Rattle.basex.specs.Kinds.{ahead, behind, listed, statusAllowed}
-
--- the string of a text that is present, else nothing
-abbrev pub stringIf : Bool → List ℕ → List ℕ
-stringIf present text = if present (string text) []
+use Rattle.basex.specs.{declared.Reply.Reply, Kinds.ahead, Kinds.behind, Kinds.listed, Kinds.statusAllowed, Texts.stringIf}
 
 -- a text that is not present is empty
 abbrev pub placeIf : Bool → List ℕ → Bool

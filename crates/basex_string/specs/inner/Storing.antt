@@ -1,10 +1,8 @@
 -- Storing the text of a string that was judged, some bytes at a time.
-use mathlib.Core.List.{List, []}
-use mathlib.Core.Path.{_≡_}
+use mathlib.Core.{List.List, List.[], Path._≡_}
 use Prim.Native.Nat.{ℕ, _+_, _≤_, _<_}
 use lib.ListN.{length, drop}
-use Rattle.wire.specs.Bytes.{splice}
-use Rattle.wire.specs.Fields.{Got}
+use Rattle.wire.specs.{Bytes.splice, Fields.Got}
 use Rattle.basex_string.specs.Scan.{reading}
 
 -- the text that was read, nothing where there is none

@@ -8,6 +8,7 @@ use lib.Dec.{ltb}
 use lib.ListN.{length, drop, length-append, length-drop}
 use lib.Seq.{drop-append-seam}
 use borrow.Author.Tests.{ltb-true, ltb-false, lt-ltb, le-ltb}
+use Rattle.wire.specs.Bytes.{splice}
 use Rattle.wire.specs.Fields.{Got}
 use Rattle.wire.specs.declared.Refusal.{Refusal}
 use Rattle.wire.specs.declared.Refusal.the-variants.{NoRoom}
@@ -16,7 +17,7 @@ use Rattle.answer_c.specs.Codes.{refusalCode}
 use Rattle.basex_laws.specs.Exactly as exact
 use Rattle.basex_c.specs.Codes.{Outcome, lent}
 use Rattle.demands.specs.Answered.{REFUSED, Answered, answered}
-use Rattle.demands.specs.BaseXCalls.{Lendable, Called, telling, Right, Unread, Fields}
+use Rattle.demands.specs.BaseXCalls.{Lendable, Called, telling, ComesOutRight, Unread, Fields}
 
 -- a refusal's number among counts, and a count
 pub refusal-is : (r : Refusal) → answered (refusalCode r) ≡ Answered.refusal (numberOf r)
@@ -43,20 +44,20 @@ module _ (s : List ℕ) (short : Lendable s) (bytes : List ℕ) (n : ℕ) (place
       let b = length-drop n s in
       count-is n (length bytes) (omega arith) (omega arith)
 
-module _ {Due : Refusal → Type 0} {Accepted : Called → Type 0} (out stored told : List ℕ) where
+module _ {Due : Refusal → Type 0} {Accepted : Called → Type 0} (out : List ℕ) (to : ℕ) (bytes told : List ℕ) where
   -- a refusal leaves everything
-  pub refuses : (r : Refusal) → Due r → Right Due Accepted out told (telling out stored told (Outcome.refused r))
-  refuses r d = Right.refused r d (ap (λ (a : Answered). record { answer = a; out = out; told = told }) (refusal-is r))
+  pub refuses : (r : Refusal) → Due r → ComesOutRight Due Accepted out told (telling out to bytes told (Outcome.refused r))
+  refuses r d = ComesOutRight.refused r d (ap (λ (a : Answered). record { answer = a; out = out; told = told }) (refusal-is r))
 
   -- a count with numbers to tell: "with 10 last"
   pub tells : (n : ℕ) (ns : List ℕ) → (length told < length ns → Due NoRoom)
-      → (length ns ≤ length told → Accepted (record { answer = answered n; out = stored; told = ns ++ drop (length ns) told }))
-      → Right Due Accepted out told (telling out stored told (lent (length told) (Outcome.counted n ns)))
+      → (length ns ≤ length told → Accepted (record { answer = answered n; out = splice out to bytes; told = ns ++ drop (length ns) told }))
+      → ComesOutRight Due Accepted out told (telling out to bytes told (lent (length told) (Outcome.counted n ns)))
   tells n ns short full = by (ltb (length told) (length ns)) refl
     where
-      by : (b : Bool) → ltb (length told) (length ns) ≡ b → Right Due Accepted out told (telling out stored told (lent (length told) (Outcome.counted n ns)))
+      by : (b : Bool) → ltb (length told) (length ns) ≡ b → ComesOutRight Due Accepted out told (telling out to bytes told (lent (length told) (Outcome.counted n ns)))
       by true e = rw e (refuses NoRoom (short (ltb-true (length told) (length ns) e)))
-      by false e = rw e (Right.accepted (full (ltb-false (length told) (length ns) e)))
+      by false e = rw e (ComesOutRight.accepted (full (ltb-false (length told) (length ns) e)))
 
 -- numbers told in front of those lent
 pub in-front : (ns told : List ℕ) → length ns ≤ length told → Fields (length ns) told (ns ++ drop (length ns) told)

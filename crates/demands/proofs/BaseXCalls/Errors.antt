@@ -13,7 +13,7 @@ use Rattle.wire.specs.Bytes.{splice}
 use Rattle.wire.specs.declared.Place.{Place}
 use Rattle.wire.specs.declared.Refusal.{Refusal}
 use Rattle.wire.specs.declared.Refusal.the-variants.{UnknownInstruction, ValueNotAllowed, NoRoom}
-use Rattle.wire.proofs.Splices.{putAt-fits, length-splice}
+use Rattle.wire.proofs.Splices.{length-splice}
 use Rattle.basex.specs.declared.Found.{Found}
 use Rattle.basex.specs.declared.Found.the-variants.{Known, Unknown}
 use Rattle.basex.specs.declared.Reply.{Reply}
@@ -32,7 +32,7 @@ use Rattle.basex_c.specs.Codes.{lent}
 use Rattle.basex_c.specs.Told.{errorTold, errorIn}
 use Rattle.demands.specs.Answered.{Answered}
 use Rattle.demands.specs.BaseXCalls as calls
-use Rattle.demands.specs.BaseXCalls.{Called, telling, refusedWith, Right, responseNumbers, errorNumbers, ErrorDue, NoError, SomeError, ErrorAsked, ErrorTold}
+use Rattle.demands.specs.BaseXCalls.{Called, telling, refusedWith, ComesOutRight, responseNumbers, errorNumbers, ErrorDue, NoError, SomeError, ErrorAsked, ErrorTold}
 use Rattle.demands.proofs.BaseXCalls.Answers.{refusal-is, in-front}
 
 module _ (kind : ℕ) (numbers place : List ℕ) where
@@ -44,7 +44,7 @@ module _ (kind : ℕ) (numbers place : List ℕ) where
 
   -- what the call makes of what is asked
   abbrev comes : ErrorIn → Called
-  comes y = telling [] [] place (lent (length place) (errorTold y))
+  comes y = telling [] 0 [] place (lent (length place) (errorTold y))
 
   refused-as : (r : Refusal) → comes (error-in.Refused r) ≡ refusedWith r [] place
   refused-as r = ap (λ (a : Answered). record { answer = a; out = []; told = place }) (refusal-is r)
@@ -62,7 +62,7 @@ module _ (kind : ℕ) (numbers place : List ℕ) where
     asks-above : 1 < status → errorIn kind numbers ≡ error-in.Refused ValueNotAllowed
     asks-above h = rw (le-ltb (length numbers) 6 six, known, lt-ltb 1 status h)
 
-    none-is : status ≡ 0 → calls.errorCalled kind numbers place ≡ record { answer = Answered.count 0; out = []; told = place }
+    none-is : status ≡ 0 → calls.errorCalled kind numbers place ≡ record { answer = Answered.count 0; out = splice [] 0 []; told = place }
     none-is s = ap comes (asks-none s) ∙ rw (le-ltb (length place) 0 (omega arith))
 
     pub no-error : status ≡ 0 → NoError place (calls.errorCalled kind numbers place)
@@ -73,7 +73,7 @@ module _ (kind : ℕ) (numbers place : List ℕ) where
 
     -- the two numbers told
     pub error-is : status ≡ 1 → 2 ≤ length place
-        → calls.errorCalled kind numbers place ≡ record { answer = Answered.count 1; out = []; told = (errorPlace reply .start ∷ errorPlace reply .len ∷ []) ++ drop 2 place }
+        → calls.errorCalled kind numbers place ≡ record { answer = Answered.count 1; out = splice [] 0 []; told = (errorPlace reply .start ∷ errorPlace reply .len ∷ []) ++ drop 2 place }
     error-is s h = ap comes (asks-place s) ∙ rw (le-ltb (length place) 2 h)
 
     pub some-error : status ≡ 1 → 2 ≤ length place → SomeError place (calls.errorCalled kind numbers place)
@@ -87,20 +87,20 @@ module _ (kind : ℕ) (numbers place : List ℕ) where
   error-due r (ErrorDue.no-room h n reply k s l) = error-unlent h n reply k s l
 
   abbrev Rightly : Type 0
-  Rightly = Right (ErrorDue kind numbers (length place)) (ErrorAsked numbers place) [] place (calls.errorCalled kind numbers place)
+  Rightly = ComesOutRight (ErrorDue kind numbers (length place)) (ErrorAsked numbers place) [] place (calls.errorCalled kind numbers place)
 
   is-due : (r : Refusal) → ErrorDue kind numbers (length place) r → Rightly
-  is-due r d = Right.refused r d (error-due r d)
+  is-due r d = ComesOutRight.refused r d (error-due r d)
 
   pub error : Rightly
   error = given (ltb (length numbers) 6) refl
     where
       failed : (h : 6 ≤ length numbers) (n : ℕ) (reply : Reply) → findOf kind ≡ Known n reply → status ≡ 1 → (b : Bool) → ltb (length place) 2 ≡ b → Rightly
       failed h n reply k s true l = is-due NoRoom (ErrorDue.no-room h n reply k s (ltb-true (length place) 2 l))
-      failed h n reply k s false l = Right.accepted (inr (s, some-error h n reply k s (ltb-false (length place) 2 l)))
+      failed h n reply k s false l = ComesOutRight.accepted (inr (s, some-error h n reply k s (ltb-false (length place) 2 l)))
 
       known : (h : 6 ≤ length numbers) (n : ℕ) (reply : Reply) → findOf kind ≡ Known n reply → (m : ℕ) → status ≡ m → Rightly
-      known h n reply k zero s = Right.accepted (inl (s, no-error h n reply k s))
+      known h n reply k zero s = ComesOutRight.accepted (inl (s, no-error h n reply k s))
       known h n reply k (suc zero) s = failed h n reply k s (ltb (length place) 2) refl
       known h n reply k (suc (suc m)) s = is-due ValueNotAllowed (ErrorDue.bad-status h n reply k (omega (arith, s)))
 
@@ -138,9 +138,7 @@ module _ (kind : ℕ) (s : List ℕ) (r : Response) (rest out told place : List 
   told-is = rw (response-exact kind s r rest .1 h, le-ltb (length out) (length (flatten (allTexts r))) fits, le-ltb (length told) 6 six)
 
   out-is : calls.readResponseCalled kind s out told .out ≡ splice out 0 (flatten (allTexts r))
-  out-is =
-      rw (response-exact kind s r rest .1 h, le-ltb (length out) (length (flatten (allTexts r))) fits, le-ltb (length told) 6 six)
-      (putAt-fits out 0 (flatten (allTexts r)) (omega (arith, fits)))
+  out-is = rw (response-exact kind s r rest .1 h, le-ltb (length out) (length (flatten (allTexts r))) fits, le-ltb (length told) 6 six)
 
   abbrev Told : List ℕ → List ℕ → Type 0
   Told o t = ErrorTold (errorOf (h .reply) r) o place (calls.errorCalled kind t place)

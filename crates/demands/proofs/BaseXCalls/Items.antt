@@ -25,7 +25,7 @@ use Rattle.basex_laws.proofs.Moments.{item-moments}
 use Rattle.basex_c.specs.Codes.{lent}
 use Rattle.basex_c.specs.Told.{itemTold, itemIn}
 use Rattle.demands.specs.Answered.{Answered}
-use Rattle.demands.specs.BaseXCalls.{Lendable, Called, telling, refusedWith, Right, Lists, ItemDue, ItemRead, ItemsEnd, itemCalled}
+use Rattle.demands.specs.BaseXCalls.{Lendable, Called, telling, refusedWith, ComesOutRight, Lists, ItemDue, ItemRead, ItemsEnd, itemCalled}
 use Rattle.demands.proofs.BaseXCalls.Answers.{refusal-is, counts, refuses, tells, in-front}
 
 pub item-some : (i : Item) → 0 < length (itemBytes i)
@@ -55,7 +55,7 @@ module _ (kind : ℕ) (s : List ℕ) (at : ℕ) where
   module _ (told : List ℕ) where
     -- what the call makes of what is asked
     abbrev pub comes : ItemAt → Called
-    comes y = telling [] [] told (lent (length told) (itemTold at y))
+    comes y = telling [] 0 [] told (lent (length told) (itemTold at y))
 
     pub refused-as : (r : Refusal) → comes (item-at.Refused r) ≡ refusedWith r [] told
     refused-as r = ap (λ (a : Answered). record { answer = a; out = []; told = told }) (refusal-is r)
@@ -88,7 +88,7 @@ module _ (kind : ℕ) (s : List ℕ) (at : ℕ) where
       Accepts c = ItemRead kind s at told c ⊎ ItemsEnd kind s at told c
 
       abbrev Rightly : Called → Type 0
-      Rightly = Right (ItemDue kind (drop at s) (length told)) Accepts [] told
+      Rightly = ComesOutRight (ItemDue kind (drop at s) (length told)) Accepts [] told
 
       module _ (full : Bool) (l : Lists kind full) where
         refusal-due : (r : Refusal) → OfFields r → next full (drop at s) ≡ Got.refused r → ItemDue kind (drop at s) (length told) r
@@ -99,13 +99,13 @@ module _ (kind : ℕ) (s : List ℕ) (at : ℕ) where
         listed-item : (y : ItemAt) → itemAt full at (length s - at) (next full (drop at s)) ≡ y → Rightly (comes y)
         listed-item (item-at.Refused r) e =
             let d = told-exactly .item-refused full s at r .0 e in
-            refuses [] [] told r (refusal-due r (next-refuses full (drop at s) r d) d)
+            refuses [] 0 [] told r (refusal-due r (next-refuses full (drop at s) r d) d)
         listed-item (item-at.End n) e =
             let d = told-exactly .item-end full s at n .0 e in
-            tells [] [] told 0 [] (λ h. absurd (omega arith)) (λ h. inr (record { full = full; lists = l; rest = drop n s; stands = d .0; counted = refl; untold = refl }))
+            tells [] 0 [] told 0 [] (λ h. absurd (omega arith)) (λ h. inr (record { full = full; lists = l; rest = drop n s; stands = d .0; counted = refl; untold = refl }))
         listed-item (item-at.Item id uri text n) e =
             let t = told-exactly .item-told full s at id uri text n .0 e in
-            tells [] [] told (n - at) (id ∷ uri ∷ text ∷ []) (λ h. ItemDue.no-room full l (t .item) (drop n s) (t .allowed) (t .stands) h)
+            tells [] 0 [] told (n - at) (id ∷ uri ∷ text ∷ []) (λ h. ItemDue.no-room full l (t .item) (drop n s) (t .allowed) (t .stands) h)
             (λ h. inl (record {
               full = full;
               lists = l;
@@ -129,13 +129,13 @@ module _ (kind : ℕ) (s : List ℕ) (at : ℕ) where
               subst Rightly (ap comes (sym (asks (isFull reply) l))) (listed-item (isFull reply) l (itemAt (isFull reply) at (length s - at) (next (isFull reply) (drop at s))) refl)
           known e n reply k false z =
               let d : ItemDue kind (drop at s) (length told) ValueNotAllowed = ItemDue.unlisted (let q = length-drop at s in let h = ltb-true at (length s) e in omega arith) n reply k z in
-              Right.refused ValueNotAllowed d (item-due ValueNotAllowed d)
+              ComesOutRight.refused ValueNotAllowed d (item-due ValueNotAllowed d)
 
           by : (b : Bool) → ltb at (length s) ≡ b → (f : Found) → findOf kind ≡ f → Rightly (itemCalled kind s at told)
           by false e f k =
               let d : ItemDue kind (drop at s) (length told) MoreBytes = ItemDue.no-byte (none-left at s (ltb-false at (length s) e)) in
-              Right.refused MoreBytes d (item-due MoreBytes d)
+              ComesOutRight.refused MoreBytes d (item-due MoreBytes d)
           by true e Unknown k =
               let d : ItemDue kind (drop at s) (length told) UnknownInstruction = ItemDue.unknown (let q = length-drop at s in let h = ltb-true at (length s) e in omega arith) k in
-              Right.refused UnknownInstruction d (item-due UnknownInstruction d)
+              ComesOutRight.refused UnknownInstruction d (item-due UnknownInstruction d)
           by true e (Known n reply) k = known e n reply k (listed reply) refl

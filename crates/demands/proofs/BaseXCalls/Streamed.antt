@@ -1,6 +1,6 @@
 -- A caller who drops each item that is told comes to the end of the items, and what is left is the response without them.
 use mathlib.Core.Bool.{Bool, true, false}
-use mathlib.Core.List.{List, [], _∷_, _++_, append-assoc}
+use mathlib.Core.List.{List, [], _∷_, _++_, append-assoc, flatMap}
 use mathlib.Core.Path.{_≡_, refl, sym, ap, subst, _∙_}
 use Prim.Native.Nat.{ℕ, _≤_}
 use native.Mathlib.Omega.{arith}
@@ -34,7 +34,7 @@ record Begins (reply : Reply) (r : Response) (i : Item) (is : List Item) : Type 
   pub bytes : encode reply r ≡ itemBytes i ++ encode reply (withItems r is)
 
 begins : (reply : Reply) (r : Response) (i : Item) (is : List Item) → Published reply r → r .items ≡ i ∷ is → Begins reply r i is
-unfolding encode itemsBytes ItemsAllowed strings
+unfolding encode flatMap
 begins reply r i is p e = by (listed reply) refl (p .list)
   where
     by : (b : Bool) → listed reply ≡ b → ListAllowed b (isFull reply) (r .items) → Begins reply r i is
@@ -54,7 +54,7 @@ begins reply r i is p e = by (listed reply) refl (p .list)
 
 -- without items it is the 00 behind them, and what follows
 ends : (reply : Reply) (r : Response) → Published reply r → listed reply ≡ true → r .items ≡ [] → encode reply r ≡ 0 ∷ r .status ∷ strings (r .error)
-unfolding encode itemsBytes strings
+unfolding encode flatMap
 ends reply r p l e = let t = no-texts reply l (r .texts) (p .first) in rw (l, e, t) refl
 
 module _ (kind : ℕ) (s : List ℕ) (short : Lendable s) (r : Response) (rest told : List ℕ) (h : Stands kind r s rest) where

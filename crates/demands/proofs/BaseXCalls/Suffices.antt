@@ -25,7 +25,7 @@ use Rattle.basex_laws.proofs.Listed.{OfFields, same}
 use Rattle.basex_laws.proofs.Refusals.{reading-refuses}
 use Rattle.basex_laws.proofs.Responses.{response-exact, one-response}
 use Rattle.demands.specs.Answered.{Answered}
-use Rattle.demands.specs.BaseXCalls.{Lendable, Called, Right, Unread, NoPlace, Decoded, ResponseRead, decodeCalled, readRequestCalled, readResponseCalled}
+use Rattle.demands.specs.BaseXCalls.{Lendable, Called, ComesOutRight, Unread, NoPlace, Decoded, ResponseRead, decodeCalled, readRequestCalled, readResponseCalled}
 use Rattle.demands.proofs.BaseXCalls.Reading.{decode, read-request, read-response}
 
 pub response-read : (kind : ℕ) (s : List ℕ) → Lendable s → (r : Response) (rest out told : List ℕ) → Stands kind r s rest → length (flatten (allTexts r)) ≤ length out → 6 ≤ length told
@@ -46,9 +46,10 @@ response-read kind s short r rest out told h fits six = by (read-response kind s
     due q (Unread.unread p d) = let f = e in apart (cc)
     due q (Unread.no-room p left d n) = no-place p (same (sym d ∙ e) .0) n
 
-    by : Right (Unread (responses.reading kind s) (λ p. NoPlace out (length (flatten (allTexts p))) told 6)) (ResponseRead kind s out told) out told (readResponseCalled kind s out told) → Reads
-    by (Right.refused q d c) = due q d
-    by (Right.accepted a) = let o = one-response kind s (a .value) r (a .rest) rest (a .stands) h in (a, o .0, o .1)
+    by : ComesOutRight (Unread (responses.reading kind s) (λ p. NoPlace out (length (flatten (allTexts p))) told 6)) (ResponseRead kind s out told) out told (readResponseCalled kind s out told)
+        → Reads
+    by (ComesOutRight.refused q d c) = due q d
+    by (ComesOutRight.accepted a) = let o = one-response kind s (a .value) r (a .rest) rest (a .stands) h in (a, o .0, o .1)
 
 pub decode-read : (s : List ℕ) → Lendable s → (at : ℕ) (t rest : List ℕ) → drop at s ≡ string t ++ rest → (out : List ℕ) (to : ℕ) (told : List ℕ) → to + length t ≤ length out → 1 ≤ length told
     → (a : Decoded s at out to told (decodeCalled s at out to told)) × (a .read .text ≡ t)
@@ -68,16 +69,16 @@ decode-read s short at t rest h out to told fits one = by (decode s short at tol
     due q (Unread.unread p d) = let f = e in apart (cc)
     due q (Unread.no-room u left d n) = no-place u (same (sym d ∙ e) .0) n
 
-    by : Right (Unread (strings.reading (drop at s)) (λ u. NoPlace out (to + length u) told 1)) (Decoded s at out to told) out told (decodeCalled s at out to told) → Reads
-    by (Right.refused q d c) = due q d
-    by (Right.accepted a) = (a, string-laws.one-encoding (a .read .text) t (a .read .rest) rest (sym (a .read .stands) ∙ h) .0)
+    by : ComesOutRight (Unread (strings.reading (drop at s)) (λ u. NoPlace out (to + length u) told 1)) (Decoded s at out to told) out told (decodeCalled s at out to told) → Reads
+    by (ComesOutRight.refused q d c) = due q d
+    by (ComesOutRight.accepted a) = (a, string-laws.one-encoding (a .read .text) t (a .read .rest) rest (sym (a .read .stands) ∙ h) .0)
 
 -- a call of reading that came out right does not answer 10 where what it reads has a place
 module _ {A : Type 0} {x : Got A} {No : A → Type 0} {Accepted : Called → Type 0} (out told : List ℕ) (c : Called) where
   never-ten : ((r : Refusal) → x ≡ Got.refused r → numberOf r ≡ 10 → ⊥) → ((a : A) (rest : List ℕ) → x ≡ Got.got a rest → No a → ⊥) → (Accepted c → (n : ℕ) × (c .answer ≡ Answered.count n))
-      → Right (Unread x No) Accepted out told c → ¬ (c .answer ≡ Answered.refusal 10)
-  never-ten refuses place counted (Right.accepted a) e = let k = counted a .1 in apart (cc)
-  never-ten refuses place counted (Right.refused r d q) e = due r d (let k = ap (λ (z : Called). z .answer) q in cc)
+      → ComesOutRight (Unread x No) Accepted out told c → ¬ (c .answer ≡ Answered.refusal 10)
+  never-ten refuses place counted (ComesOutRight.accepted a) e = let k = counted a .1 in apart (cc)
+  never-ten refuses place counted (ComesOutRight.refused r d q) e = due r d (let k = ap (λ (z : Called). z .answer) q in cc)
     where
       due : (r : Refusal) → Unread x No r → numberOf r ≡ 10 → ⊥
       due r (Unread.unread q d) n = refuses q d n

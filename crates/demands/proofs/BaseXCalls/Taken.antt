@@ -1,12 +1,14 @@
 -- An item is told and decoded at the place where it stands, whatever stands behind it.
 use mathlib.Core.Bool.{Bool}
-use mathlib.Core.List.{List, [], _∷_, _++_, append-assoc}
+use mathlib.Core.List.{List, [], _∷_, _++_, append-assoc, flatMap}
 use mathlib.Core.Path.{_≡_, refl, sym, ap, subst, _∙_}
 use Prim.Native.Nat.{ℕ, suc, _+_, _-_, _≤_}
 use native.Mathlib.Omega.{arith}
 use lib.ListN.{length, drop, length-append, length-drop}
 use lib.Seq.{drop-drop, drop-append-seam}
 use borrow.Author.Tests.{le-ltb}
+use Rattle.wire.proofs.Lists.{flatMap-append}
+use Rattle.wire.specs.Bytes.{splice}
 use Rattle.basex_string.specs.Strings.{string}
 use Rattle.basex.specs.Texts.{strings}
 use Rattle.basex.specs.Response.{Item, itemBytes, ItemAllowed}
@@ -30,12 +32,12 @@ module _ (kind : ℕ) (s : List ℕ) (at : ℕ) (full : Bool) (lists : Lists kin
       n : ℕ
       n = at + (length s - at - length rest) - at
 
-      c : itemCalled kind s at told ≡ record { answer = answered n; out = []; told = numbers ++ drop 3 told }
+      c : itemCalled kind s at told ≡ record { answer = answered n; out = splice [] 0 []; told = numbers ++ drop 3 told }
       c =
           ap (comes kind s at told) (asks kind s at full lists ∙ ap (itemAt full at (length s - at)) (ap (next full) e ∙ next-item full i rest allowed))
           ∙ rw (le-ltb (length told) 3 three)
 
-      read : ItemRead kind s at told (record { answer = answered n; out = []; told = numbers ++ drop 3 told })
+      read : ItemRead kind s at told (record { answer = answered n; out = splice [] 0 []; told = numbers ++ drop 3 told })
       read =
           let m = made full i (allowed .1) in
           let l = ap length e ∙ length-append (itemBytes i) rest in
@@ -56,25 +58,21 @@ module _ (kind : ℕ) (s : List ℕ) (at : ℕ) (full : Bool) (lists : Lists kin
 
   pub item-none : (rest told : List ℕ) → drop at s ≡ 0 ∷ rest → ItemsEnd kind s at told (itemCalled kind s at told)
   item-none rest told e =
-      let c : itemCalled kind s at told ≡ record { answer = Answered.count 0; out = []; told = told }
+      let c : itemCalled kind s at told ≡ record { answer = Answered.count 0; out = splice [] 0 []; told = told }
       = ap (comes kind s at told) (asks kind s at full lists ∙ ap (itemAt full at (length s - at)) (ap (next full) e ∙ next-end full rest)) ∙ rw (le-ltb (length told) 0 (omega arith)) in
       subst (ItemsEnd kind s at told) (sym c) (record { full = full; lists = lists; rest = rest; stands = e; counted = refl; untold = refl })
 
-strings-append : (ts us : List (List ℕ)) → strings (ts ++ us) ≡ strings ts ++ strings us
-unfolding strings
-strings-append [] us = refl
-strings-append (t ∷ ts) us = ap (λ (m : List ℕ). string t ++ m) (strings-append ts us) ∙ sym (append-assoc (string t) (strings ts) (strings us))
-
-pub item-decoded : (s : List ℕ) → Lendable s → (at : ℕ) (i : Item) (rest : List ℕ) → drop at s ≡ itemBytes i ++ rest → (front : List (List ℕ)) (t : List ℕ) (back : List (List ℕ)) → i .texts ≡ front ++ (t ∷ back)
+pub item-decoded : (s : List ℕ) → Lendable s → (at : ℕ) (i : Item) (rest : List ℕ) → drop at s ≡ itemBytes i ++ rest
+    → (front : List (List ℕ)) (t : List ℕ) (back : List (List ℕ)) → i .texts ≡ front ++ (t ∷ back)
     → (out : List ℕ) (to : ℕ) (told : List ℕ) → to + length t ≤ length out → 1 ≤ length told
     → (a : Decoded s (at + suc (length (strings front))) out to told (decodeCalled s (at + suc (length (strings front))) out to told)) × (a .read .text ≡ t)
-unfolding itemBytes strings
+unfolding itemBytes flatMap
 item-decoded s short at i rest e front t back h out to told fits one = decode-read s short (at + suc (length (strings front))) t (strings back ++ rest) there out to told fits one
   where
     behind : strings (i .texts) ++ rest ≡ strings front ++ (string t ++ (strings back ++ rest))
     behind =
         ap (λ (m : List (List ℕ)). strings m ++ rest) h
-        ∙ ap (λ (m : List ℕ). m ++ rest) (strings-append front (t ∷ back))
+        ∙ ap (λ (m : List ℕ). m ++ rest) (flatMap-append string front (t ∷ back))
         ∙ append-assoc (strings front) (string t ++ strings back) rest
         ∙ ap (λ (m : List ℕ). strings front ++ m) (append-assoc (string t) (strings back) rest)
 

@@ -28,7 +28,7 @@ use Rattle.basex_c.specs.Codes.{Outcome, lent}
 use Rattle.demands.specs.Answered.{Answered, answered}
 use Rattle.demands.specs.BaseXCalls.{Lendable, Called, telling, Lists, itemNumbers, onward, walked}
 use Rattle.demands.proofs.BaseXCalls.Answers.{counts}
-use Rattle.demands.proofs.BaseXCalls.Items.{item-some, asks, refused-as, item, comes}
+use Rattle.demands.proofs.BaseXCalls.Items.{item-some, asks, refused-as, comes}
 
 -- the items that calls tell are those that the library hands out
 module _ (kind : ℕ) (s : List ℕ) (short : Lendable s) (out told : List ℕ) (three : 3 ≤ length told) (full : Bool) (l : Lists kind full) where
@@ -36,7 +36,7 @@ module _ (kind : ℕ) (s : List ℕ) (short : Lendable s) (out told : List ℕ) 
   goes at to then c = onward full out at to (c .answer) (itemNumbers (c .told)) then
 
   counted-as : (n : ℕ) (ns : List ℕ) → length ns ≤ length told
-      → telling [] [] told (lent (length told) (Outcome.counted n ns)) ≡ record { answer = answered n; out = []; told = ns ++ drop (length ns) told }
+      → telling [] 0 [] told (lent (length told) (Outcome.counted n ns)) ≡ record { answer = answered n; out = splice [] 0 []; told = ns ++ drop (length ns) told }
   counted-as n ns h = rw (le-ltb (length told) (length ns) h)
 
   step : (at to : ℕ) (then more : ℕ → ℕ → List Item) → ((a t : ℕ) → then a t ≡ more a t) → (y : ItemAt) → itemAt full at (length s - at) (next full (drop at s)) ≡ y
@@ -55,7 +55,8 @@ module _ (kind : ℕ) (s : List ℕ) (short : Lendable s) (out told : List ℕ) 
       let i = itemOf full id (take uri (drop to out)) (take text (drop (to + uri) out)) in
       ap (goes at to then) (counted-as (n - at) (id ∷ uri ∷ text ∷ []) three)
       ∙ ap (λ (x : Answered). onward full out at to x (record { id = id; uri = uri; text = text }) then) c
-      ∙ rw (ne-eqb (length bytes) 0 (λ w. omega (arith, item-some (t .item)))) (ap (λ (is : List Item). i ∷ is) (same (at + length bytes) (to + (uri + text)) ∙ ap (λ (m : ℕ). more m (to + (uri + text))) z))
+      ∙ rw (ne-eqb (length bytes) 0 (λ w. omega (arith, item-some (t .item))))
+      (ap (λ (is : List Item). i ∷ is) (same (at + length bytes) (to + (uri + text)) ∙ ap (λ (m : ℕ). more m (to + (uri + text))) z))
 
   module _ (whole : fullOf (findOf kind) ≡ full) where
     walks : (n at to : ℕ) → walked n kind s out told at to ≡ handed n full s out at to
@@ -69,12 +70,14 @@ lists-of : (kind : ℕ) (f : Found) → findOf kind ≡ f → listedOf f ≡ tru
 lists-of kind Unknown k e = apart (cc)
 lists-of kind (Known n reply) k e = record { strings = n; reply = reply; known = k; list = e; uris = refl }
 
-pub items-walked : (kind : ℕ) (s : List ℕ) → Lendable s → listedOf (findOf kind) ≡ true → (r : Response) (rest out told : List ℕ) → Stands kind r s rest → length (flatten (allTexts r)) ≤ length out → 3 ≤ length told
+pub items-walked : (kind : ℕ) (s : List ℕ) → Lendable s → listedOf (findOf kind) ≡ true → (r : Response) (rest out told : List ℕ) → Stands kind r s rest
+    → length (flatten (allTexts r)) ≤ length out → 3 ≤ length told
     → walked (suc (length (r .items))) kind s (splice out 0 (flatten (allTexts r))) told 0 0 ≡ r .items
 items-walked kind s short l r rest out told h fits three =
     let full = fullOf (findOf kind) in
     let e = response-exact kind s r rest .1 h in
-    let p : outputRead responses.textBytes out 0 (responses.reading kind s) ≡ splice out 0 (flatten (allTexts r)) = ap (outputRead responses.textBytes out 0) e ∙ putAt-fits out 0 (flatten (allTexts r)) (omega arith) in
+    let p : outputRead responses.textBytes out 0 (responses.reading kind s) ≡ splice out 0 (flatten (allTexts r)) = ap (outputRead responses.textBytes out 0) e
+    ∙ putAt-fits out 0 (flatten (allTexts r)) (omega arith) in
     walks kind s short (splice out 0 (flatten (allTexts r))) told three full (lists-of kind (findOf kind) refl l) refl (suc (length (r .items))) 0 0
     ∙ ap (λ (o : List ℕ). handed (suc (length (r .items))) full s o 0 0) (sym p)
     ∙ items-all kind s r rest out l e fits

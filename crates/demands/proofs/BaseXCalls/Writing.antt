@@ -22,27 +22,28 @@ use Rattle.basex_laws.specs.Exactly as exact
 use Rattle.basex_laws.proofs.Exactly.{written-exactly}
 use Rattle.demands.specs.BaseXCalls as calls
 use Rattle.demands.specs.Answered.{Answered}
-use Rattle.demands.specs.BaseXCalls.{Lendable, Right, Written}
+use Rattle.demands.specs.BaseXCalls.{Lendable, ComesOutRight, Written}
 use Rattle.demands.proofs.BaseXCalls.Answers.{refusal-is, count-is}
 
 -- a call of writing, by what the library answers and leaves
 module _ {Due : Refusal → Type 0} {Is : List ℕ → Type 0} (out : List ℕ) (short : Lendable out) (at : ℕ) where
-  unwritten : (r : Refusal) {after : List ℕ} → Due r → after ≡ out → Right Due (Written Is out at) out [] (calls.writing (refusalCode r) after)
-  unwritten r {after} d e = Right.refused r d (ap₂ (λ (a : Answered) (o : List ℕ). record { answer = a; out = o; told = [] }) (refusal-is r) e)
+  unwritten : (r : Refusal) {after : List ℕ} → Due r → after ≡ out → ComesOutRight Due (Written Is out at) out [] (calls.writing (refusalCode r) after)
+  unwritten r {after} d e = ComesOutRight.refused r d (ap₂ (λ (a : Answered) (o : List ℕ). record { answer = a; out = o; told = [] }) (refusal-is r) e)
 
-  wrote : (n : ℕ) (bytes : List ℕ) {after : List ℕ} → Is bytes → exact.Fits (length out) at bytes n → after ≡ splice out at bytes → Right Due (Written Is out at) out [] (calls.writing n after)
+  wrote : (n : ℕ) (bytes : List ℕ) {after : List ℕ} → Is bytes → exact.Fits (length out) at bytes n → after ≡ splice out at bytes → ComesOutRight Due (Written Is out at) out [] (calls.writing n after)
   wrote n bytes i f e =
       let c = f .count in
       let w = f .within in
-      Right.accepted (record { bytes = bytes; is = i; counted = count-is n (length bytes) c (omega arith); fits = omega arith; there = e })
+      ComesOutRight.accepted (record { bytes = bytes; is = i; counted = count-is n (length bytes) c (omega arith); fits = omega arith; there = e })
 
 module _ (out : List ℕ) (short : Lendable out) where
   pub write-string : (at : ℕ) (text : List ℕ)
-      → Right (λ r. (r ≡ NoRoom) × (length out < at + length (string text))) (Written (λ e. e ≡ string text) out at) out [] (calls.writeStringCalled out at text)
+      → ComesOutRight (λ r. (r ≡ NoRoom) × (length out < at + length (string text))) (Written (λ e. e ≡ string text) out at) out [] (calls.writeStringCalled out at text)
   write-string at text = by (inRoom (length out) at (length (string text))) refl
     where
       by : (w : Counted) → inRoom (length out) at (length (string text)) ≡ w
-          → Right (λ r. (r ≡ NoRoom) × (length out < at + length (string text))) (Written (λ e. e ≡ string text) out at) out [] (calls.writing (countedCode w) (outputAfter w out at (string text)))
+          → ComesOutRight (λ r. (r ≡ NoRoom) × (length out < at + length (string text))) (Written (λ e. e ≡ string text) out at) out []
+          (calls.writing (countedCode w) (outputAfter w out at (string text)))
       by (spelled.Refused r) e =
           let d = written-exactly .string-unwritten (length out) at text r .0 e in
           unwritten out short at r d refl
@@ -53,13 +54,13 @@ module _ (out : List ℕ) (short : Lendable out) where
           wrote out short at n (string text) refl f refl
 
   pub write-request : (kind : ℕ) (a b c d : List ℕ)
-      → Right (exact.Unwritten (length out) kind (a ∷ b ∷ c ∷ d ∷ []))
+      → ComesOutRight (exact.Unwritten (length out) kind (a ∷ b ∷ c ∷ d ∷ []))
       (Written (calls.RequestBytes kind (a ∷ b ∷ c ∷ d ∷ [])) out 0)
       out [] (calls.writeRequestCalled out kind (a ∷ b ∷ c ∷ d ∷ []))
   write-request kind a b c d = by (requesting.written (length out) kind (a ∷ b ∷ c ∷ d ∷ [])) refl
     where
       by : (w : Counted) → requesting.written (length out) kind (a ∷ b ∷ c ∷ d ∷ []) ≡ w
-          → Right (exact.Unwritten (length out) kind (a ∷ b ∷ c ∷ d ∷ []))
+          → ComesOutRight (exact.Unwritten (length out) kind (a ∷ b ∷ c ∷ d ∷ []))
           (Written (calls.RequestBytes kind (a ∷ b ∷ c ∷ d ∷ [])) out 0)
           out [] (calls.writing (countedCode w) (outputAfter w out 0 (requesting.bytesOf kind (a ∷ b ∷ c ∷ d ∷ []))))
       by (spelled.Refused r) e = unwritten out short 0 r (written-exactly .request-unwritten (length out) kind a b c d r .0 e) refl
@@ -73,12 +74,12 @@ module _ (out : List ℕ) (short : Lendable out) where
           ∙ written-exactly .request-there out kind (a ∷ b ∷ c ∷ d ∷ []) q (f .1) (f .2) (omega arith))
 
   pub write-item : (at kind id : ℕ) (uri text : List ℕ)
-      → Right (exact.ItemUnwritten (length out) at kind id uri text) (Written (calls.ItemBytes kind id uri text) out at)
+      → ComesOutRight (exact.ItemUnwritten (length out) at kind id uri text) (Written (calls.ItemBytes kind id uri text) out at)
       out [] (calls.writeItemCalled out at kind id uri text)
   write-item at kind id uri text = by (itemWritten (length out) at kind id uri text) refl
     where
       by : (w : Counted) → itemWritten (length out) at kind id uri text ≡ w
-          → Right (exact.ItemUnwritten (length out) at kind id uri text) (Written (calls.ItemBytes kind id uri text) out at)
+          → ComesOutRight (exact.ItemUnwritten (length out) at kind id uri text) (Written (calls.ItemBytes kind id uri text) out at)
           out [] (calls.writing (countedCode w) (outputAfter w out at (itemBytes (itemOf (fullOf (findOf kind)) id uri text))))
       by (spelled.Refused r) e = unwritten out short at r (written-exactly .item-unwritten (length out) at kind id uri text r .0 e) refl
       by (spelled.Count n) e =
@@ -91,13 +92,13 @@ module _ (out : List ℕ) (short : Lendable out) where
           ∙ written-exactly .item-there out at kind id uri text i (f .1) (omega arith))
 
   pub write-end : (at kind : ℕ) (first second : List ℕ) (status : ℕ) (error : List ℕ)
-      → Right (exact.EndUnwritten (length out) at kind first second status error)
+      → ComesOutRight (exact.EndUnwritten (length out) at kind first second status error)
       (Written (calls.EndBytes kind first second status error) out at)
       out [] (calls.writeEndCalled out at kind first second status error)
   write-end at kind first second status error = by (endWritten (length out) at kind first second status error) refl
     where
       by : (w : Counted) → endWritten (length out) at kind first second status error ≡ w
-          → Right (exact.EndUnwritten (length out) at kind first second status error)
+          → ComesOutRight (exact.EndUnwritten (length out) at kind first second status error)
           (Written (calls.EndBytes kind first second status error) out at)
           out [] (calls.writing (countedCode w) (outputAfter w out at (endBytes (findOf kind) first second status error)))
       by (spelled.Refused r) e = unwritten out short at r (written-exactly .end-unwritten (length out) at kind first second status error r .0 e) refl

@@ -14,7 +14,7 @@ handed-spec =
     (tie.spec
     (λ c. search needs)
     (λ c. sym (length-take-le (c .before .before .bytes-handed .result) (c .before .before .before .before .args .buffer .now) (search needs)))
-    (λ c. (ap (λ (n : ℕ). take n (c .before .before .before .before .args .buffer .now)) (c .before .before .bytes-handed .ensures), refl))
+    (λ c. record { bytes = ap (λ (n : ℕ). take n (c .before .before .before .before .args .buffer .now)) (c .before .before .bytes-handed .ensures); place = refl })
     (λ c.
     let buffer : List ℕ = c .before .before .before .args .buffer .now in
-    (sym (take-all (c .before .bytes-handed .result) buffer (omega arith)) ∙ ap (λ (n : ℕ). take n buffer) (c .before .bytes-handed .ensures), refl)))
+    record { bytes = sym (take-all (c .before .bytes-handed .result) buffer (omega arith)) ∙ ap (λ (n : ℕ). take n buffer) (c .before .bytes-handed .ensures); place = refl }))

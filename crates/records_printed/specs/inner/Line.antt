@@ -1,14 +1,9 @@
 -- A record answered by one step, and its line measured and written field by field where there is room.
-use mathlib.Core.List.{List}
-use mathlib.Core.Path.{_≡_}
+use mathlib.Core.{List.List, Path._≡_}
 use Prim.Native.Nat.{ℕ, _+_, _≤_}
-use lib.Dec.{ltb, eqb}
-use lib.ListN.{length}
-use Rattle.wire.specs.Bytes.{if, intAt}
-use Rattle.wire.specs.Refusals.{numberOf}
-use Rattle.wire.specs.declared.Refusal.{Refusal}
-use Rattle.records_printed.specs.declared.Widths.{Widths}
-use Rattle.records_printed.specs.Line.{decimal, instruction}
+use lib.{Dec.ltb, Dec.eqb, ListN.length}
+use Rattle.wire.specs.{Bytes.if, Bytes.intAt, Refusals.numberOf, declared.Refusal.Refusal}
+use Rattle.records_printed.specs.{declared.Widths.Widths, Line.decimal, Line.instruction}
 
 -- the number of a step's refusal: bytes after the message are 7, ahead of 9
 abbrev pub refusedWith : List ℕ → Refusal → ℕ

@@ -17,7 +17,8 @@ kdr-option-spec =
     (λ c. search needs)
     (λ c κs. search needs)
     (λ c.
-    rw (← c .before .before .before .before .before .option-at .ensures, c .before .before .before .id .given .1, lt-ltb _ _ (c .before .if1 .taken)) (record { answers = c .refusal-code .ensures; leaves = refl }))
+    rw (← c .before .before .before .before .before .option-at .ensures, c .before .before .before .id .given .1, lt-ltb _ _ (c .before .if1 .taken))
+    (record { answers = c .refusal-code .ensures; leaves = refl }))
     (λ c. search needs)
     (λ c. search needs)
     (λ c. simp length-set (omega arith))

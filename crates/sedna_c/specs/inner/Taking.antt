@@ -1,21 +1,11 @@
 -- What the one function behind `kdr_read` and `kdr_step` goes by, and promises.
-use mathlib.Core.Bool.{Bool, not}
-use mathlib.Core.List.{List}
-use mathlib.Core.Path.{_≡_}
+use mathlib.Core.{Bool.Bool, Bool.not, List.List, Path._≡_}
 use Prim.Native.Nat.{ℕ}
-use lib.Dec.{eqb}
-use lib.ListN.{length}
-use Rattle.wire.specs.Bytes.{if, intAt}
-use Rattle.wire.specs.declared.Refusal.the-variants.{ValueNotAllowed}
-use Rattle.sedna_read.specs.declared.Reading.{Reading}
-use Rattle.sedna_read.specs.Places.{located}
-use Rattle.sedna_read.specs.Reading.{reading, orOutOfOrder}
-use Rattle.session.specs.declared.Session.{Session}
-use Rattle.session.specs.Machine.{refused, next}
-use Rattle.session.specs.inner.After.{afterAnswer}
-use Rattle.sedna_c.specs.declared.sides.Sender.{Sender}
-use Rattle.sedna_c.specs.Codes.{senderOf, TellsReading}
-use Rattle.sedna_c.specs.Sessions.{recordIn, kept}
+use lib.{Dec.eqb, ListN.length}
+use Rattle.wire.specs.{Bytes.if, Bytes.intAt, declared.Refusal.the-variants.ValueNotAllowed}
+use Rattle.sedna_read.specs.{declared.Reading.Reading, Places.located, Reading.reading, Reading.orOutOfOrder}
+use Rattle.session.specs.{declared.Session.Session, Machine.refused, Machine.next, After.afterAnswer}
+use Rattle.sedna_c.specs.{declared.sides.Sender.Sender, Codes.senderOf, Codes.TellsReading, Sessions.recordIn, Sessions.kept}
 
 -- the phase after the message in front; reading alone asks for none, and any will do
 abbrev pub phaseAfter : Bool → Session → List ℕ → ℕ

@@ -1,12 +1,8 @@
 -- Bounds that private functions ask for, or keep, so that no sum wraps.
-use mathlib.Core.Bool.{true}
-use mathlib.Core.Path.{_≡_}
+use mathlib.Core.{Bool.true, Path._≡_}
 use Prim.Native.Nat.{ℕ, _^_, _≤_, _<_}
-use Rattle.sedna_instant.specs.declared.fields.Clock.{Clock}
-use Rattle.sedna_instant.specs.declared.fields.Fraction.{Fraction}
-use Rattle.sedna_instant.specs.declared.fields.Year.{Year}
-use Rattle.sedna_instant.specs.declared.fields.ZoneFound.{ZoneFound}
-use Rattle.sedna_instant.specs.DateTimes.{isFormed}
+use Rattle.sedna_instant.specs.{declared.fields.Clock.Clock, declared.fields.Fraction.Fraction, declared.fields.Year.Year}
+use Rattle.sedna_instant.specs.{declared.fields.ZoneFound.ZoneFound, DateTimes.isFormed}
 
 -- a contract: the call answers this, within a bound
 pub record GivesWithin {A : Type 0} (bound : A → Type 0) (answer r : A) : Type 0 where

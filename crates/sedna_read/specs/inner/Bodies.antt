@@ -1,20 +1,12 @@
 -- What the functions that read the fields of a body answer, by their places in the bytes.
-use mathlib.Core.List.{List, [], _∷_}
+use mathlib.Core.{List.List, List.[], List._∷_, Path._≡_}
 use Prim.Native.Nat.{ℕ, _+_, _-_, _≤_}
-use mathlib.Core.Path.{_≡_}
-use lib.Dec.{leb}
-use lib.ListN.{length, take, drop}
-use Rattle.wire.specs.declared.Place.{Place}
-use Rattle.wire.specs.declared.Refusal.the-variants.{ValueNotAllowed, BytesLeftOver}
-use Rattle.sedna.specs.declared.Shape.{Shape}
-use Rattle.sedna.specs.Message.{Pair, Body}
-use Rattle.sedna_read.specs.declared.StringPlace.{StringPlace}
-use Rattle.sedna_read.specs.declared.PairPlace.{PairPlace}
-use Rattle.sedna_read.specs.declared.Parsed.{Parsed}
+use lib.{Dec.leb, ListN.length, ListN.take, ListN.drop}
+use Rattle.wire.specs.{declared.Place.Place, declared.Refusal.the-variants.ValueNotAllowed, declared.Refusal.the-variants.BytesLeftOver}
 use Rattle.wire.specs.Fields.{Got, Field, goOn, required, give}
-use Rattle.sedna_read.specs.Fields.{stringField, nothingLeft}
-use Rattle.sedna_read.specs.Reading.{fieldsOf, urlField}
-use Rattle.sedna_read.specs.Places.{place, placesOf}
+use Rattle.sedna.specs.{declared.Shape.Shape, Message.Pair, Message.Body}
+use Rattle.sedna_read.specs.{declared.StringPlace.StringPlace, declared.PairPlace.PairPlace, declared.Parsed.Parsed}
+use Rattle.sedna_read.specs.{Fields.stringField, Fields.nothingLeft, Reading.fieldsOf, Reading.urlField, Places.place, Places.placesOf}
 
 -- the bytes of s from `at` up to `end`
 abbrev pub window : List ℕ → ℕ → ℕ → List ℕ

@@ -1,6 +1,8 @@
 use mathlib.Core.Path.{sym, _∙_}
+use Prim.Native.Nat.{_+_}
 use borrow.Author.Needs.{needs}
-use borrow.Author.Tests.{lt-ltb, le-ltb}
+use borrow.Author.Tests.{lt-ltb, le-ltb, not-true, not-false}
+use Rattle.wire.proofs.Call.{room-there, room-short, no-room, is-room}
 use Rattle.sedna_write.specs.Writing.{judgement}
 use Rattle.sedna_write.proofs.judge.Statement.{statement}
 use Rattle.sedna_write.proofs.judge.Tie as tie
@@ -19,13 +21,23 @@ judge-spec =
     (λ c. search needs)
     (λ c κs. search needs)
     (λ c.
-    c .in-room .ensures ∙ sym
+    let a = c .before .before .before .before .before .before .before .args in
+    sym (room-short (a .room) 0 (8 + a .n) (no-room (a .room) 0 (8 + a .n) (c .before .has-room .ensures) (not-true _ (c .if3 .taken)))) ∙ sym
     (simp (
-      ← c .before .before .before .before .before .fits2 .ensures,
-      c .before .before .before .enum-told3 .given .1,
-      c .before .before .if1 .taken,
-      le-ltb _ _
-          (c .before .if2 .left),
+      ← c .before .before .before .before .before .before .fits2 .ensures,
+      c .before .before .before .before .enum-told3 .given .1,
+      c .before .before .before .if1 .taken,
+      le-ltb _ _ (c .before .before .if2 .left),
+    )))
+    (λ c. search needs)
+    (λ c.
+    let a = c .before .before .before .before .before .before .before .args in
+    sym (room-there (a .room) 0 (8 + a .n) (is-room (a .room) 0 (8 + a .n) (c .before .has-room .ensures) (not-false _ (c .if3 .left)))) ∙ sym
+    (simp (
+      ← c .before .before .before .before .before .before .fits2 .ensures,
+      c .before .before .before .before .enum-told3 .given .1,
+      c .before .before .before .if1 .taken,
+      le-ltb _ _ (c .before .before .if2 .left),
     )))
     (λ c. simp (← c .before .before .fits2 .ensures, c .enum-told .given .1))
     (λ c. simp (← c .before .before .fits2 .ensures, c .enum-told2 .given .1))

@@ -1,16 +1,10 @@
 -- What the functions that write a message's head, and its options behind it, promise and ask.
-use mathlib.Core.Bool.{Bool}
-use mathlib.Core.List.{List, _++_}
-use mathlib.Core.Path.{_≡_}
+use mathlib.Core.{Bool.Bool, List.List, List._++_, Path._≡_}
 use Prim.Native.Nat.{ℕ, _+_, _≤_}
 use lib.ListN.{length}
-use Rattle.wire.specs.Bytes.{int}
-use Rattle.wire.specs.Call.{outputAfter}
-use Rattle.wire.specs.declared.Counted.{Counted}
-use Rattle.sedna.specs.declared.Shape.{Shape}
-use Rattle.sedna.specs.Encode.{pairsBytes}
-use Rattle.sedna_write.specs.Pairs.{sum, pairsOf}
-use Rattle.sedna_write.specs.Writing.{judgement}
+use Rattle.wire.specs.{Bytes.int, Call.outputAfter, declared.Counted.Counted}
+use Rattle.sedna.specs.{declared.Shape.Shape, Encode.pairsBytes}
+use Rattle.sedna_write.specs.{Pairs.sum, Pairs.pairsOf, Writing.judgement}
 
 -- a message is judged, and its head written in front of the output where nothing is refused
 pub record Begins (out : List ℕ) (instruction : ℕ) (shape : Shape) (ok : Bool) (n : ℕ) (r : Counted) (after : List ℕ) : Type 0 where

@@ -15,9 +15,22 @@ error-in-spec =
     (λ c. search needs)
     (λ c. search needs)
     (λ c.
-    rw (le-ltb _ _ (c .before .before .before .before .before .before .if1 .left), ← c .before .before .before .before .before .find .ensures, c .before .before .before .reply .given .1, lt-ltb _ _ (c .if2 .taken)))
+    rw (
+      le-ltb _ _ (c .before .before .before .before .before .before .if1 .left),
+      ← c .before .before .before .before .before .find .ensures,
+      c .before .before .before .reply .given .1,
+      lt-ltb _ _
+          (c .if2 .taken),
+    ))
     (λ c.
-    rw (le-ltb _ _ (c .before .before .before .before .before .before .before .if1 .left), ← c .before .before .before .before .before .before .find .ensures, c .before .before .before .before .reply .given .1, le-ltb _ _ (c .before .if2 .left), eq-eqb _ _ (c .if3 .taken)))
+    rw (
+      le-ltb _ _ (c .before .before .before .before .before .before .before .if1 .left),
+      ← c .before .before .before .before .before .before .find .ensures,
+      c .before .before .before .before .reply .given .1,
+      le-ltb _ _
+          (c .before .if2 .left),
+      eq-eqb _ _ (c .if3 .taken),
+    ))
     (λ c. search needs)
     (λ c. search needs)
     (λ c. search needs)
@@ -25,4 +38,11 @@ error-in-spec =
     (λ c κs. search needs)
     (λ c. rw (le-ltb _ _ (c .before .before .before .if1 .left), ← c .before .before .find .ensures, c .enum-told .given .1))
     (λ c.
-    rw (le-ltb _ _ (c .before .before .before .before .before .before .before .before .before .before .before .before .if1 .left), ← c .before .before .before .before .before .before .before .before .before .before .before .find .ensures, c .before .before .before .before .before .before .before .before .before .reply .given .1, le-ltb _ _ (c .before .before .before .before .before .before .if2 .left), ne-eqb _ _ (c .before .before .before .before .before .if3 .left)) (ap error-in.At (c .error-at .ensures))))
+    rw (
+      le-ltb _ _ (c .before .before .before .before .before .before .before .before .before .before .before .before .if1 .left),
+      ← c .before .before .before .before .before .before .before .before .before .before .before .find .ensures,
+      c .before .before .before .before .before .before .before .before .before .reply .given .1,
+      le-ltb _ _
+          (c .before .before .before .before .before .before .if2 .left),
+      ne-eqb _ _ (c .before .before .before .before .before .if3 .left),
+    ) (ap error-in.At (c .error-at .ensures))))

@@ -5,7 +5,10 @@ use Rattle.basex_c.proofs.requests.kdr_basex_write_request.Statement.{s
 use Rattle.basex_c.proofs.requests.kdr_basex_write_request.Tie as tie
 
 returns : tie.Need-returns
-returns c = record { answers = c .counted-code .ensures ∙ ap countedCode (c .before .before .before .write-request .ensures .answers); leaves = c .before .before .before .write-request .ensures .leaves }
+returns c = record {
+  answers = c .counted-code .ensures ∙ ap countedCode (c .before .before .before .write-request .ensures .answers);
+  leaves = c .before .before .before .write-request .ensures .leaves;
+}
 
 pub kdr-basex-write-request-spec : {M : Type 1} → statement M
 kdr-basex-write-request-spec =

@@ -16,7 +16,20 @@ item-in-spec =
     (λ c κs. search needs)
     (λ c κs. search needs)
     (λ c.
-    rw (lt-ltb _ _ (c .before .before .before .before .before .before .before .before .if1 .left), ← c .before .before .before .before .before .before .before .find .ensures, c .before .before .before .before .before .reply .given .1, sym (c .before .before .before .is-listed .ensures) ∙ c .before .before .if2 .taken, ← c .before .is-full .ensures) (c .item-at .ensures))
+    rw (
+      lt-ltb _ _ (c .before .before .before .before .before .before .before .before .if1 .left),
+      ← c .before .before .before .before .before .before .before .find .ensures,
+      c .before .before .before .before .before .reply .given .1,
+      sym
+          (c .before .before .before .is-listed .ensures) ∙ c .before .before .if2 .taken,
+      ← c .before .is-full .ensures,
+    ) (c .item-at .ensures))
     (λ c. rw (lt-ltb _ _ (c .before .before .before .if1 .left), ← c .before .before .find .ensures, c .enum-told .given .1))
     (λ c.
-    rw (lt-ltb _ _ (c .before .before .before .before .before .before .if1 .left), ← c .before .before .before .before .before .find .ensures, c .before .before .before .reply .given .1, sym (c .before .is-listed .ensures) ∙ c .if2 .left)))
+    rw (
+      lt-ltb _ _ (c .before .before .before .before .before .before .if1 .left),
+      ← c .before .before .before .before .before .find .ensures,
+      c .before .before .before .reply .given .1,
+      sym
+          (c .before .is-listed .ensures) ∙ c .if2 .left,
+    )))

@@ -11,14 +11,14 @@ use Rattle.wire.specs.declared.Refusal.the-variants.{NoRoom}
 use Rattle.basex.specs.Response.{Response}
 use Rattle.basex_response.specs.Reading.{reading, allTexts, textBytes, answered}
 use Rattle.basex_response.specs.declared.Replied.the-variants.{Refused}
-use Rattle.basex_c.specs.Told.{responseTold}
+use Rattle.basex_c.specs.Told.{responseTold, bytesRead}
 use Rattle.basex_c.proofs.Stored.{Judged, exported}
 use Rattle.basex_c.proofs.responses.kdr_basex_read_response.Statement.{statement}
 use Rattle.basex_c.proofs.responses.kdr_basex_read_response.Tie as tie
 
-judged : (n : ℕ) (g : Got Response) → Judged 6 responseTold (λ room. answered n room g) (λ d. outputRead textBytes d 0 g)
+judged : (n : ℕ) (g : Got Response) → Judged 6 responseTold (λ room. answered n room g) (λ d. outputRead textBytes d 0 g) 0 (bytesRead textBytes g)
 judged n (Got.refused r) = Judged.never (λ _. refl) (λ _. refl)
-judged n (Got.got p rest) = Judged.fits (Refused NoRoom) _ (length (flatten (allTexts p))) 0 (flatten (allTexts p)) refl refl refl (omega arith) (λ _. refl) (λ _. refl)
+judged n (Got.got p rest) = Judged.fits (Refused NoRoom) _ (length (flatten (allTexts p))) refl refl refl (omega arith) (λ _. refl) (λ _. refl)
 
 pub kdr-basex-read-response-spec : {M : Type 1} → statement M
 kdr-basex-read-response-spec =
@@ -34,4 +34,6 @@ kdr-basex-read-response-spec =
     (λ c. search needs)
     (λ c.
     let a = c .before .before .before .before .before .before .before .before .before .before .before .before .args in
-    exported (a .out .now) (a .told .now) (judged (length (a .bytes .now)) (reading (a .kind) (a .bytes .now))) (c .before .before .before .before .before .before .before .before .usable .ensures .0) (c .before .before .before .before .before .read-response .ensures .answers) (c .before .before .before .before .before .read-response .ensures .leaves) (c .before .before .tell .ensures)))
+    exported (a .out .now) (a .told .now) (judged (length (a .bytes .now)) (reading (a .kind) (a .bytes .now)))
+    (c .before .before .before .before .before .before .before .before .usable .ensures .0) (c .before .before .before .before .before .read-response .ensures .answers)
+    (c .before .before .before .before .before .read-response .ensures .leaves) (c .before .before .tell .ensures)))

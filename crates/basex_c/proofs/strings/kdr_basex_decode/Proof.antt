@@ -9,14 +9,14 @@ use Rattle.wire.specs.declared.Refusal.the-variants.{NoRoom}
 use Rattle.basex_string.specs.Answers.{decoded, outputRead}
 use Rattle.basex_string.specs.Scan.{reading}
 use Rattle.basex_string.specs.declared.StringAt.the-variants.{At, Refused}
-use Rattle.basex_c.specs.Told.{stringTold}
+use Rattle.basex_c.specs.Told.{stringTold, bytesRead}
 use Rattle.basex_c.proofs.Stored.{Judged, exported}
 use Rattle.basex_c.proofs.strings.kdr_basex_decode.Statement.{statement}
 use Rattle.basex_c.proofs.strings.kdr_basex_decode.Tie as tie
 
-judged : (at n to : ℕ) (g : Got (List ℕ)) → Judged 1 (stringTold at) (λ room. decoded n room to g) (λ d. outputRead (λ s. s) d to g)
+judged : (at n to : ℕ) (g : Got (List ℕ)) → Judged 1 (stringTold at) (λ room. decoded n room to g) (λ d. outputRead (λ s. s) d to g) to (bytesRead (λ s. s) g)
 judged at n to (Got.refused r) = Judged.never (λ _. refl) (λ _. refl)
-judged at n to (Got.got s rest) = Judged.fits (Refused NoRoom) (At (length s) (n - length rest)) (to + length s) to s refl refl refl refl (λ _. refl) (λ _. refl)
+judged at n to (Got.got s rest) = Judged.fits (Refused NoRoom) (At (length s) (n - length rest)) (to + length s) refl refl refl refl (λ _. refl) (λ _. refl)
 
 pub kdr-basex-decode-spec : {M : Type 1} → statement M
 kdr-basex-decode-spec =
@@ -32,4 +32,6 @@ kdr-basex-decode-spec =
     (λ c. search needs)
     (λ c.
     let a = c .before .before .before .before .before .before .before .before .before .before .before .before .args in
-    exported (a .out .now) (a .told .now) (judged (a .at) (length (a .bytes .now)) (a .to) (reading (drop (a .at) (a .bytes .now)))) (c .before .before .before .before .before .before .before .before .usable .ensures .0) (c .before .before .before .before .before .decode .ensures .answers) (c .before .before .before .before .before .decode .ensures .leaves) (c .before .before .tell .ensures)))
+    exported (a .out .now) (a .told .now) (judged (a .at) (length (a .bytes .now)) (a .to) (reading (drop (a .at) (a .bytes .now))))
+    (c .before .before .before .before .before .before .before .before .usable .ensures .0) (c .before .before .before .before .before .decode .ensures .answers)
+    (c .before .before .before .before .before .decode .ensures .leaves) (c .before .before .tell .ensures)))

@@ -5,7 +5,10 @@ use Rattle.basex_c.proofs.strings.kdr_basex_write_string.Statement.{sta
 use Rattle.basex_c.proofs.strings.kdr_basex_write_string.Tie as tie
 
 returns : tie.Need-returns
-returns c = record { answers = c .counted-code .ensures ∙ ap countedCode (c .before .before .before .write-string .ensures .answers); leaves = c .before .before .before .write-string .ensures .leaves }
+returns c = record {
+  answers = c .counted-code .ensures ∙ ap countedCode (c .before .before .before .write-string .ensures .answers);
+  leaves = c .before .before .before .write-string .ensures .leaves;
+}
 
 pub kdr-basex-write-string-spec : {M : Type 1} → statement M
 kdr-basex-write-string-spec =

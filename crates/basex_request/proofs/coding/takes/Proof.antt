@@ -27,7 +27,8 @@ returns-4 c =
 returns-5 : tie.Need-returns-5
 returns-5 c =
     let a = c .before .before .before .before .before .args in
-    none-unused (a .first .now) (a .second .now) (a .third .now) (a .fourth .now) (a .n) (λ h. absurd (omega arith)) (λ h. absurd (omega arith)) (λ h. c .before .if4 .left) (λ h. c .before .before .before .if2 .left)
+    none-unused (a .first .now) (a .second .now) (a .third .now) (a .fourth .now) (a .n) (λ h. absurd (omega arith)) (λ h. absurd (omega arith)) (λ h. c .before .if4 .left)
+    (λ h. c .before .before .before .if2 .left)
 
 returns-6 : tie.Need-returns-6
 returns-6 c =
@@ -37,12 +38,14 @@ returns-6 c =
 returns-7 : tie.Need-returns-7
 returns-7 c =
     let a = c .before .before .before .before .before .before .before .args in
-    none-unused (a .first .now) (a .second .now) (a .third .now) (a .fourth .now) (a .n) (λ h. absurd (omega arith)) (λ h. c .before .if6 .left) (λ h. c .before .before .before .if4 .left) (λ h. c .before .before .before .before .before .if2 .left)
+    none-unused (a .first .now) (a .second .now) (a .third .now) (a .fourth .now) (a .n) (λ h. absurd (omega arith)) (λ h. c .before .if6 .left)
+    (λ h. c .before .before .before .if4 .left) (λ h. c .before .before .before .before .before .if2 .left)
 
 returns-8 : tie.Need-returns-8
 returns-8 c =
     let a = c .before .before .before .before .before .before .before .args in
-    first-unused (a .first .now) (a .second .now) (a .third .now) (a .fourth .now) (a .n) (c .if7 .left) (c .before .if6 .left) (c .before .before .before .if4 .left) (c .before .before .before .before .before .if2 .left)
+    first-unused (a .first .now) (a .second .now) (a .third .now) (a .fourth .now) (a .n) (c .if7 .left) (c .before .if6 .left) (c .before .before .before .if4 .left)
+    (c .before .before .before .before .before .if2 .left)
 
 pub takes-spec : {M : Type 1} → statement M
 takes-spec = tie.close (tie.spec returns returns-2 returns-3 returns-4 returns-5 returns-6 returns-7 returns-8)

@@ -1,5 +1,5 @@
-use mathlib.Core.Path.{refl}
 use borrow.Author.Needs.{needs}
+use borrow.Author.Tests.{lt-ltb, le-ltb}
 use Rattle.basex_response.proofs.errors.error_at.Statement.{statement}
 use Rattle.basex_response.proofs.errors.error_at.Tie as tie
 
@@ -7,13 +7,10 @@ pub error-at-spec : {M : Type 1} → statement M
 error-at-spec =
     tie.close
     (tie.spec
-    (λ c. search needs)
-    (λ c. search needs)
-    (λ c. search needs)
-    (λ c. search needs)
-    (λ c. search needs)
-    (λ c. rw (c .enum-told .given .1) refl)
-    (λ c. rw (c .enum-told2 .given .1) refl)
-    (λ c. rw (c .enum-told3 .given .1) refl)
-    (λ c. rw (c .enum-told4 .given .1) refl)
-    (λ c. rw (c .enum-told5 .given .1) refl))
+    (λ c κs. search needs)
+    (λ c κs. search needs)
+    (λ c. rw (← c .before .before .before .error-behind .ensures, c .before .before .if1 .taken, ← c .before .is-listed .ensures, c .if2 .taken))
+    (λ c. rw (← c .before .before .before .error-behind .ensures, c .before .before .if1 .taken, ← c .before .is-listed .ensures, c .if2 .left))
+    (λ c κs. search needs)
+    (λ c. rw (← c .before .before .before .error-behind .ensures, c .before .before .if1 .left, ← c .before .strings-ahead .ensures, lt-ltb _ _ (c .if3 .taken)))
+    (λ c. rw (← c .before .before .before .error-behind .ensures, c .before .before .if1 .left, ← c .before .strings-ahead .ensures, le-ltb _ _ (c .if3 .left))))

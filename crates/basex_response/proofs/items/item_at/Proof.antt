@@ -26,13 +26,22 @@ item-at-spec =
     (λ c. search needs)
     (λ c.
     let a = c .before .before .before .before .before .before .before .before .before .before .before .args in
-    let g : idAllowed (getD (a .bytes .now) (a .at) 0) ≡ _ = sym (c .before .before .before .before .before .before .id-allowed .ensures) ∙ not-false _ (c .before .before .before .before .before .if3 .left) in
-    texts-refused (a .full) (a .bytes .now) (a .at) (c .before .before .before .before .before .before .before .before .before .if1 .left) (c .before .before .before .before .before .before .before .if2 .left) g _ (c .before .before .before .before .item-strings .ensures) _ (sym (c .before .before .before .two-at .ensures) ∙ c .before .r .given .1))
+    let g : idAllowed (getD (a .bytes .now) (a .at) 0) ≡ _ = sym (c .before .before .before .before .before .before .id-allowed .ensures)
+    ∙ not-false _ (c .before .before .before .before .before .if3 .left) in
+    texts-refused (a .full) (a .bytes .now) (a .at) (c .before .before .before .before .before .before .before .before .before .if1 .left)
+    (c .before .before .before .before .before .before .before .if2 .left) g _ (c .before .before .before .before .item-strings .ensures) _
+    (sym (c .before .before .before .two-at .ensures) ∙ c .before .r .given .1))
     (λ c.
     let a = c .before .before .before .before .before .before .before .before .before .before .before .before .args in
-    let g : idAllowed (getD (a .bytes .now) (a .at) 0) ≡ _ = sym (c .before .before .before .before .before .before .before .id-allowed .ensures) ∙ not-false _ (c .before .before .before .before .before .before .if3 .left) in
-    with-uri (a .full) (a .bytes .now) (a .at) (c .before .before .before .before .before .before .before .before .before .before .if1 .left) (c .before .before .before .before .before .before .before .before .if2 .left) g _ (c .before .before .before .before .before .item-strings .ensures) _ _ _ (sym (c .before .before .before .before .two-at .ensures) ∙ c .before .before .first .given .1) (c .if4 .taken))
+    let g : idAllowed (getD (a .bytes .now) (a .at) 0) ≡ _ = sym (c .before .before .before .before .before .before .before .id-allowed .ensures)
+    ∙ not-false _ (c .before .before .before .before .before .before .if3 .left) in
+    with-uri (a .full) (a .bytes .now) (a .at) (c .before .before .before .before .before .before .before .before .before .before .if1 .left)
+    (c .before .before .before .before .before .before .before .before .if2 .left) g _ (c .before .before .before .before .before .item-strings .ensures) _ _ _
+    (sym (c .before .before .before .before .two-at .ensures) ∙ c .before .before .first .given .1) (c .if4 .taken))
     (λ c.
     let a = c .before .before .before .before .before .before .before .before .before .before .before .before .args in
-    let g : idAllowed (getD (a .bytes .now) (a .at) 0) ≡ _ = sym (c .before .before .before .before .before .before .before .id-allowed .ensures) ∙ not-false _ (c .before .before .before .before .before .before .if3 .left) in
-    without-uri (a .full) (a .bytes .now) (a .at) (c .before .before .before .before .before .before .before .before .before .before .if1 .left) (c .before .before .before .before .before .before .before .before .if2 .left) g _ (c .before .before .before .before .before .item-strings .ensures) _ _ _ (sym (c .before .before .before .before .two-at .ensures) ∙ c .before .before .first .given .1) (c .if4 .left)))
+    let g : idAllowed (getD (a .bytes .now) (a .at) 0) ≡ _ = sym (c .before .before .before .before .before .before .before .id-allowed .ensures)
+    ∙ not-false _ (c .before .before .before .before .before .before .if3 .left) in
+    without-uri (a .full) (a .bytes .now) (a .at) (c .before .before .before .before .before .before .before .before .before .before .if1 .left)
+    (c .before .before .before .before .before .before .before .before .if2 .left) g _ (c .before .before .before .before .before .item-strings .ensures) _ _ _
+    (sym (c .before .before .before .before .two-at .ensures) ∙ c .before .before .first .given .1) (c .if4 .left)))

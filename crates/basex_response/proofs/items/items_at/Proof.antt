@@ -11,7 +11,8 @@ use Rattle.basex_response.proofs.items.items_at.Statement.{statement}
 use Rattle.basex_response.proofs.items.items_at.Tie as tie
 
 abbrev Inv-loop : tie.InvT-loop
-Inv-loop full bytes at from₀ count₀ listed₀ from count listed = (count + at ≤ from) × (listed + at ≤ from) × (itemsAt at (length bytes - at) (list full (drop at bytes)) ≡ after count listed (itemsAt from (length bytes - from) (list full (drop from bytes))))
+Inv-loop full bytes at from₀ count₀ listed₀ from count listed = (count + at ≤ from) × (listed + at ≤ from)
+    × (itemsAt at (length bytes - at) (list full (drop at bytes)) ≡ after count listed (itemsAt from (length bytes - from) (list full (drop from bytes))))
 
 abbrev μ-loop : tie.MeasureT-loop
 μ-loop full bytes at from₀ count₀ listed₀ from count listed = length bytes - from
@@ -25,7 +26,9 @@ returns-2 c =
     sym (l .inv .2 ∙ ap (after (l .count) (l .listed)) (walk-end (a .full) (a .bytes .now) (l .from) _ (sym (c .before .before .before .item-at .ensures) ∙ c .before .next .given .1)) ∙ cc (n, m))
 
 -- the item that a turn has found
-stood : (c : tie.After-known-told3 Inv-loop μ-loop) → Here (c .before .before .before .before .before .before .args .full) (c .before .before .before .before .before .before .args .bytes .now) (c .before .before .before .before .loop .from) (c .before .uri .given .0 .1 .0) (c .before .uri .given .0 .1 .1 .0) (c .before .uri .given .0 .1 .1 .1 .0)
+stood : (c : tie.After-known-told3 Inv-loop μ-loop) → Here (c .before .before .before .before .before .before .args .full)
+    (c .before .before .before .before .before .before .args .bytes .now) (c .before .before .before .before .loop .from) (c .before .uri .given .0 .1 .0)
+    (c .before .uri .given .0 .1 .1 .0) (c .before .uri .given .0 .1 .1 .1 .0)
 stood c = here _ _ _ _ _ _ _ (sym (c .before .before .before .item-at .ensures) ∙ c .before .uri .given .1)
 
 loop-again : tie.Need-loop-again Inv-loop μ-loop
@@ -37,8 +40,12 @@ loop-again c =
     let s = h .sum in
     let z = h .sizes in
     let x = item-size (h .item) in
-    let g = c .before .uri .given .0 .1 in
-    (omega arith, omega arith, l .inv .2 ∙ ap (after (l .count) (l .listed)) (walk-item (a .full) (a .bytes .now) (l .from) _ _ _ h) ∙ after-one (l .count) (l .listed) (g .0 + g .1 .0) (itemsAt (g .1 .1 .0) (length (a .bytes .now) - g .1 .1 .0) (list (a .full) (drop (g .1 .1 .0) (a .bytes .now)))))
+    let g = c .before .uri .given .0 .1 in (
+      omega arith,
+      omega arith,
+      l .inv .2 ∙ ap (after (l .count) (l .listed)) (walk-item (a .full) (a .bytes .now) (l .from) _ _ _ h)
+          ∙ after-one (l .count) (l .listed) (g .0 + g .1 .0) (itemsAt (g .1 .1 .0) (length (a .bytes .now) - g .1 .1 .0) (list (a .full) (drop (g .1 .1 .0) (a .bytes .now)))),
+    )
 
 pub items-at-spec : {M : Type 1} → statement M
 items-at-spec =

@@ -19,7 +19,9 @@ end-at-spec =
     (λ c. search needs)
     (λ c.
     let a = c .before .before .before .before .before .before .before .before .before .args in
-    error-refused (a .reply) (a .bytes .now) (a .at) (c .before .before .before .before .before .before .before .if1 .left) (c .before .before .before .before .before .if2 .left) _ (c .before .before .before .before .strings-behind .ensures) _ (sym (c .before .before .before .two-at .ensures) ∙ c .before .r .given .1))
+    error-refused (a .reply) (a .bytes .now) (a .at) (c .before .before .before .before .before .before .before .if1 .left) (c .before .before .before .before .before .if2 .left) _
+    (c .before .before .before .before .strings-behind .ensures) _ (sym (c .before .before .before .two-at .ensures) ∙ c .before .r .given .1))
     (λ c.
     let a = c .before .before .before .before .before .before .before .before .before .args in
-    end-told (a .reply) (a .bytes .now) (a .at) (c .before .before .before .before .before .before .before .if1 .left) (c .before .before .before .before .before .if2 .left) _ (c .before .before .before .before .strings-behind .ensures) _ _ _ (sym (c .before .before .before .two-at .ensures) ∙ c .before .first .given .1)))
+    end-told (a .reply) (a .bytes .now) (a .at) (c .before .before .before .before .before .before .before .if1 .left) (c .before .before .before .before .before .if2 .left) _
+    (c .before .before .before .before .strings-behind .ensures) _ _ _ (sym (c .before .before .before .two-at .ensures) ∙ c .before .first .given .1)))

@@ -12,7 +12,8 @@ use Rattle.basex_response.proofs.read.list_at.Tie as tie
 returns : tie.Need-returns
 returns c =
     let a = c .before .before .before .before .before .args in
-    rw (sym (c .before .before .before .is-listed .ensures) ∙ c .before .before .if1 .taken) (c .items-at .ensures ∙ ap (λ (f : Bool). itemsAt (a .at) (length (a .bytes .now) - a .at) (list f (drop (a .at) (a .bytes .now)))) (c .before .is-full .ensures))
+    rw (sym (c .before .before .before .is-listed .ensures) ∙ c .before .before .if1 .taken)
+    (c .items-at .ensures ∙ ap (λ (f : Bool). itemsAt (a .at) (length (a .bytes .now) - a .at) (list f (drop (a .at) (a .bytes .now)))) (c .before .is-full .ensures))
 
 pub list-at-spec : {M : Type 1} → statement M
 list-at-spec =

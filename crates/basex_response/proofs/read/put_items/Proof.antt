@@ -10,7 +10,8 @@ use Rattle.basex_response.proofs.read.put_items.Statement.{statement}
 use Rattle.basex_response.proofs.read.put_items.Tie as tie
 
 abbrev Inv-loop : tie.InvT-loop
-Inv-loop full bytes at count out₀ to from₀ end₀ i₀ out from end i = (i ≤ count) × (length out ≡ length out₀) × (at ≤ from) × Going full bytes (listStored out₀ to (list full (drop at bytes))) from (count - i) out end
+Inv-loop full bytes at count out₀ to from₀ end₀ i₀ out from end i = (i ≤ count) × (length out ≡ length out₀) × (at ≤ from)
+    × Going full bytes (listStored out₀ to (list full (drop at bytes))) from (count - i) out end
 
 abbrev μ-loop : tie.MeasureT-loop
 μ-loop full bytes at count out₀ to from₀ end₀ i₀ out from end i = count - i
@@ -20,7 +21,8 @@ loop-again c =
     let a = c .before .before .before .before .before .before .before .before .before .before .args in
     let l = c .before .before .before .before .before .before .before .loop in
     let h = c .before .before .before .before .before .before .loop-test .taken in
-    let g = going-on _ _ _ _ _ _ _ (l .inv .3) _ (c .before .before .before .before .item-strings .ensures) _ _ (c .before .before .store-judged-texts .ensures .answers) (c .before .before .store-judged-texts .ensures .leaves) (a .count - (l .i + 1)) (omega arith) in
+    let g = going-on _ _ _ _ _ _ _ (l .inv .3) _ (c .before .before .before .before .item-strings .ensures) _ _
+    (c .before .before .store-judged-texts .ensures .answers) (c .before .before .store-judged-texts .ensures .leaves) (a .count - (l .i + 1)) (omega arith) in
     (omega arith, search needs, (let w = g .1 in omega arith), g .0)
 
 pub put-items-spec : {M : Type 1} → statement M

@@ -20,7 +20,8 @@ put-items-requires c κs =
 returns : tie.Need-returns
 returns c =
     let a = c .before .before .before .before .before .before .before .before .before .args in
-    let e = field-list (a .reply) (drop (a .at) (a .bytes .now)) _ (sym (c .before .before .before .before .before .before .is-listed .ensures) ∙ c .before .before .before .before .before .if1 .taken) (c .before .before .before .before .is-full .ensures) in
+    let e = field-list (a .reply) (drop (a .at) (a .bytes .now)) _
+    (sym (c .before .before .before .before .before .before .is-listed .ensures) ∙ c .before .before .before .before .before .if1 .taken) (c .before .before .before .before .is-full .ensures) in
     record {
       answers = c .before .before .put-items .ensures .answers ∙ ap (λ (x : Got (List Item)). ends (a .at) (length (a .bytes .now) - a .at) (listStored (a .out .now) (a .to) x)) e;
       leaves = c .before .before .put-items .ensures .leaves ∙ ap (λ (x : Got (List Item)). listStored (a .out .now) (a .to) x .out) e;

@@ -15,7 +15,12 @@ read-response-spec =
     (λ c. search needs)
     (λ c κs. search needs)
     (λ c.
-    let a = c .before .before .before .before .before .before .args in rw (some-read (a .kind) (a .bytes .now) (c .before .before .before .if1 .left) ∙ ap (λ f. readingAs f (a .bytes .now)) (sym (c .before .before .find .ensures) ∙ c .enum-told .given .1)) (record { answers = refl; leaves = refl }))
+    let a = c .before .before .before .before .before .before .args in rw
+    (some-read (a .kind) (a .bytes .now) (c .before .before .before .if1 .left)
+    ∙ ap (λ f. readingAs f (a .bytes .now)) (sym (c .before .before .find .ensures) ∙ c .enum-told .given .1)) (record { answers = refl; leaves = refl }))
     (λ c. search needs)
     (λ c.
-    let a = c .before .before .before .before .before .before .before .before .before .before .before .args in rw (some-read (a .kind) (a .bytes .now) (c .before .before .before .before .before .before .before .before .if1 .left) ∙ ap (λ f. readingAs f (a .bytes .now)) (sym (c .before .before .before .before .before .before .before .find .ensures) ∙ c .before .before .before .before .before .reply .given .1)) (c .before .before .read-as .ensures)))
+    let a = c .before .before .before .before .before .before .before .before .before .before .before .args in rw
+    (some-read (a .kind) (a .bytes .now) (c .before .before .before .before .before .before .before .before .if1 .left)
+    ∙ ap (λ f. readingAs f (a .bytes .now)) (sym (c .before .before .before .before .before .before .before .find .ensures)
+    ∙ c .before .before .before .before .before .reply .given .1)) (c .before .before .read-as .ensures)))

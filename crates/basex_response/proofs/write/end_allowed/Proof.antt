@@ -15,8 +15,16 @@ end-allowed-spec =
     rw (le-leb _ 1 (c .before .before .before .if1 .left), sym (c .before .before .strings-ahead .ensures)) (rw (sym (c .before .has-place .ensures) ∙ not-true _ (c .if2 .taken)) refl))
     (λ c κs. search needs)
     (λ c.
-    rw (le-leb _ 1 (c .before .before .before .before .before .if1 .left), sym (c .before .before .before .before .strings-ahead .ensures)) (rw (sym (c .before .before .before .has-place .ensures) ∙ not-false _ (c .before .before .if2 .left), sym (c .before .has-place2 .ensures) ∙ not-true _ (c .if3 .taken)) refl))
+    rw (le-leb _ 1 (c .before .before .before .before .before .if1 .left), sym (c .before .before .before .before .strings-ahead .ensures))
+    (rw (sym (c .before .before .before .has-place .ensures) ∙ not-false _ (c .before .before .if2 .left), sym (c .before .has-place2 .ensures) ∙ not-true _ (c .if3 .taken)) refl))
     (λ c κs. search needs)
     (λ c κs. search needs)
     (λ c.
-    rw (le-leb _ 1 (c .before .before .before .before .before .before .before .if1 .left), sym (c .before .before .before .before .before .before .strings-ahead .ensures)) (rw (sym (c .before .before .before .before .before .has-place .ensures) ∙ not-false _ (c .before .before .before .before .if2 .left), sym (c .before .before .before .has-place2 .ensures) ∙ not-false _ (c .before .before .if3 .left), sym (c .before .strings-behind .ensures)) (c .has-place3 .ensures))))
+    rw (le-leb _ 1 (c .before .before .before .before .before .before .before .if1 .left), sym (c .before .before .before .before .before .before .strings-ahead .ensures))
+    (rw (
+      sym (c .before .before .before .before .before .has-place .ensures)
+          ∙ not-false _ (c .before .before .before .before .if2 .left),
+      sym (c .before .before .before .has-place2 .ensures)
+          ∙ not-false _ (c .before .before .if3 .left),
+      sym (c .before .strings-behind .ensures),
+    ) (c .has-place3 .ensures))))

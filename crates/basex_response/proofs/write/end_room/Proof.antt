@@ -15,7 +15,8 @@ returns c =
     let n = c .before .before .before .before .before .before .before .strings-ahead .result in
     let l = c .before .before .before .before .is-listed .result in
     let m = c .before .before .strings-behind .result in
-    let e : aheadParts n (a .first .now) (a .second .now) ++ lastParts l (a .status) m (a .error .now) ≡ endParts (a .reply) (a .first .now) (a .second .now) (a .status) (a .error .now) = rw (c .before .before .before .before .before .before .before .strings-ahead .ensures, c .before .before .before .before .is-listed .ensures, c .before .before .strings-behind .ensures) refl in
+    let e : aheadParts n (a .first .now) (a .second .now) ++ lastParts l (a .status) m (a .error .now) ≡ endParts (a .reply) (a .first .now) (a .second .now) (a .status)
+    (a .error .now) = rw (c .before .before .before .before .before .before .before .strings-ahead .ensures, c .before .before .before .before .is-listed .ensures, c .before .before .strings-behind .ensures) refl in
     let t = ahead-size n (a .first .now) (a .second .now) in
     let u = last-size l (a .status) m (a .error .now) in
     let k = sym (ap length e) ∙ length-append (aheadParts n (a .first .now) (a .second .now)) (lastParts l (a .status) m (a .error .now)) in

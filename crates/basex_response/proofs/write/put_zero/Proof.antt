@@ -1,7 +1,7 @@
 use mathlib.Core.Path.{refl}
 use borrow.Author.Needs.{needs}
 use Rattle.basex_response.specs.inner.Spelling.{zeroIf}
-use Rattle.basex_response.proofs.Writes.{none-put}
+use Rattle.basex.proofs.Puts.{none-put}
 use Rattle.basex_response.proofs.write.put_zero.Statement.{statement}
 use Rattle.basex_response.proofs.write.put_zero.Tie as tie
 

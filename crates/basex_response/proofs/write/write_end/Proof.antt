@@ -29,7 +29,8 @@ write-end-spec =
     (λ c.
     let a = c .before .before .before .before .before .before .before .before .before .before .args in
     refused-writes _ _ (a .out .now) (a .at) _
-    (end-refused (length (a .out .now)) (a .at) _ _ (a .first .now) (a .second .now) (a .status) (a .error .now) (a .kind) (sym (c .before .before .before .before .before .find .ensures) ∙ c .before .before .before .reply .given .1) (sym (c .before .end-allowed .ensures) ∙ not-true _ (c .if1 .taken))))
+    (end-refused (length (a .out .now)) (a .at) _ _ (a .first .now) (a .second .now) (a .status) (a .error .now) (a .kind)
+    (sym (c .before .before .before .before .before .find .ensures) ∙ c .before .before .before .reply .given .1) (sym (c .before .end-allowed .ensures) ∙ not-true _ (c .if1 .taken))))
     (λ c κs. search needs)
     (λ c. rw (sym (c .before .before .find .ensures) ∙ c .enum-told .given .1) (record { answers = refl; leaves = refl }))
     (λ c. search needs)

@@ -19,11 +19,12 @@ returns c =
     let m = c .before .before .put-singles in
     let w = run-within (drop (a .from) (a .bytes .now)) in
     let d = length-drop (a .from) (a .bytes .now) in
-    let s = run-start (a .bytes .now) (a .from) (a .from + k .result) (omega arith) (omega (arith, k .ensures .1)) in (
-      counted _ _ _ _ _ _ _ (c .before .before .before .before .before .before .before .before .least .ensures) (omega (arith, w, d)) (k .ensures .0) (omega (arith, s)) (m .ensures .0),
-      m .ensures .1
-          ∙ copied-over (a .bytes .now) (a .out .now) (a .from) (a .to) (k .result) (m .result) (k .ensures .2) (omega arith) (omega arith),
-    )
+    let s = run-start (a .bytes .now) (a .from) (a .from + k .result) (omega arith) (omega (arith, k .ensures .1)) in
+    record {
+      answers = counted _ _ _ _ _ _ _ (c .before .before .before .before .before .before .before .before .least .ensures) (omega (arith, w, d)) (k .ensures .0)
+          (omega (arith, s)) (m .ensures .answers);
+      leaves = m .ensures .leaves ∙ copied-over (a .bytes .now) (a .out .now) (a .from) (a .to) (k .result) (m .result) (k .ensures .2) (omega arith) (omega arith);
+    }
 
 pub put-run-spec : {M : Type 1} → statement M
 put-run-spec =

@@ -21,7 +21,7 @@ returns c =
     let l = c .before .before .before .before .loop in
     let e = run-special (a .bytes .now) (a .from + l .k) (omega arith) (sym (c .before .is-special .ensures) ∙ c .if1 .taken) in
     let s = run-start (a .bytes .now) (a .from) (a .from + l .k) (omega arith) (omega arith) in
-    (omega arith, l .inv .3)
+    record { answers = omega arith; leaves = l .inv .3 }
 
 loop-again : tie.Need-loop-again Inv-loop μ-loop
 loop-again c =
@@ -51,4 +51,4 @@ put-singles-spec =
     (λ c. omega arith)
     loop-again
     (λ c. c .before .loop .inv .0)
-    (λ c. (omega arith, c .before .loop .inv .3)))
+    (λ c. record { answers = omega arith; leaves = c .before .loop .inv .3 }))

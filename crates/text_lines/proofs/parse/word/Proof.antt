@@ -46,4 +46,8 @@ word-spec =
     let a = c .before .before .before .before .before .before .before .before .before .before .before .before .before .before .before .before .before .before .before .before .args in
     let e = ap decimalOf (sym (c .before .before .before .before .before .before .before .before .behind .ensures)) ∙ sym
     (c .before .before .before .before .before .before .before .decimal .ensures) ∙ c .before .before .before .before .before .times .given .1 in
-    word-counted (a .out .now) (a .n) (a .text .now) (c .before .before .before .before .before .before .before .before .before .before .before .before .before .before .before .before .before .front .ensures .0) (found _ (c .before .before .before .before .before .before .before .before .before .before .before .before .before .before .before .pairs .ensures) (c .before .before .before .before .before .before .before .before .before .before .before .m .given .1)) (c .before .before .before .before .before .before .before .before .before .if1 .left) e (c .before .before .repeat .ensures)))
+    word-counted (a .out .now) (a .n) (a .text .now)
+    (c .before .before .before .before .before .before .before .before .before .before .before .before .before .before .before .before .before .front .ensures .0)
+    (found _ (c .before .before .before .before .before .before .before .before .before .before .before .before .before .before .before .pairs .ensures)
+    (c .before .before .before .before .before .before .before .before .before .before .before .m .given .1))
+    (c .before .before .before .before .before .before .before .before .before .if1 .left) e (c .before .before .repeat .ensures)))

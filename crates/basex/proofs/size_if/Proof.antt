@@ -1,6 +1,6 @@
 use borrow.Author.Needs.{needs}
-use Rattle.basex_response.proofs.write.size_if.Statement.{statement}
-use Rattle.basex_response.proofs.write.size_if.Tie as tie
+use Rattle.basex.proofs.size_if.Statement.{statement}
+use Rattle.basex.proofs.size_if.Tie as tie
 
 pub size-if-spec : {M : Type 1} → statement M
 size-if-spec =

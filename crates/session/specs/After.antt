@@ -1,10 +1,9 @@
--- What a step makes of an answer, by the places of the message's fields: for the functions below the step.
+-- What a step makes of an answer, by the places of the message's fields.
 use Prim.Native.Nat.{ℕ}
 use lib.Dec.{eqb}
 use Rattle.wire.specs.Bytes.{if}
 use Rattle.sedna.specs.Names.{SessionParameters}
-use Rattle.sedna_read.specs.declared.Places.{Places}
-use Rattle.sedna_read.specs.declared.Reading.{Reading}
+use Rattle.sedna_read.specs.{declared.Places.Places, declared.Reading.Reading}
 use Rattle.session.specs.declared.Session.{Session}
 
 -- the version that a session's parameters name; no other body has one

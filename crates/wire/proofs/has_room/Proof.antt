@@ -2,9 +2,9 @@ use mathlib.Core.Path.{sym}
 use Prim.Native.Nat.{_+_}
 use native.Mathlib.Omega.{arith}
 use borrow.Author.Tests.{lt-leb}
-use Rattle.basex_response.proofs.Writes.{room-behind}
-use Rattle.basex_response.proofs.write.has_room.Statement.{statement}
-use Rattle.basex_response.proofs.write.has_room.Tie as tie
+use Rattle.wire.proofs.Call.{room-behind}
+use Rattle.wire.proofs.has_room.Statement.{statement}
+use Rattle.wire.proofs.has_room.Tie as tie
 
 pub has-room-spec : {M : Type 1} → statement M
 has-room-spec =

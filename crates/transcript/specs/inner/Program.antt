@@ -1,14 +1,11 @@
 -- What the transcript program's functions answer. What was read and what was written no contract can say.
-use mathlib.Core.List.{List}
-use mathlib.Core.Path.{_≡_}
+use mathlib.Core.{List.List, Path._≡_}
 use Prim.Native.Nat.{ℕ, _≤_}
 use lib.ListN.{length, take}
 use Rattle.session.specs.declared.Session.{Session}
 use Rattle.records_printed.specs.Answer.{answered}
-use Rattle.records.specs.Record.{headOf, Front}
-use Rattle.records.specs.Places.{reach}
-use Rattle.transcript.specs.declared.Input.{Input}
-use Rattle.transcript.specs.declared.Progress.{Progress}
+use Rattle.records.specs.{Record.headOf, Record.Front, Places.reach}
+use Rattle.transcript.specs.{declared.Input.Input, declared.Progress.Progress}
 
 -- no more bytes came than there is room for
 abbrev pub Within : ℕ → Input → Type 0
