@@ -30,7 +30,7 @@ use Rattle.session.specs.Step.{freshSession, Outcome, outcome, byPlaces, steppe
 use Rattle.session_laws.proofs.Follows.{Follows, fresh-follows, begins, whole-closed, Settled, settles, moved, nine}
 use Rattle.session_laws.proofs.Published.{published-sent}
 use Rattle.session_laws.proofs.Turn.{turn-exact}
-use Rattle.sedna_c.specs.Codes.{readCode, fieldsLeft}
+use Rattle.sedna_c.specs.Codes.{readCode, fieldsAfter}
 use Rattle.sedna_c.specs.Sessions.{recordIn, recordPut, sideStepped, kept, turnNumber}
 use Rattle.demands.specs.Answered.{Answered, answered, Call, Told}
 use Rattle.demands.specs.Exports.{called, Why, RightCall, accepting, Closes, Turns, After, Demand3Exports}
@@ -43,7 +43,7 @@ use Rattle.demands.proofs.Tells.{counted, read-count, behind}
 abbrev calledAs : List ℕ → Call → Stepped → Done (List ℕ) Told
 calledAs d c x = record {
   record-after = kept (x .answer) (x .session) (length (c .numbers)) d;
-  answer = record { answer = answered (readCode (x .answer) (length (c .numbers))); numbers = fieldsLeft (x .answer) (c .numbers) };
+  answer = record { answer = answered (readCode (x .answer) (length (c .numbers))); numbers = fieldsAfter (x .answer) (c .numbers) };
 }
 
 -- what a side's step is

@@ -30,7 +30,7 @@ use Rattle.sedna_read.proofs.Pairs.{option-past}
 use Rattle.wire.specs.declared.Counted.{Counted}
 use Rattle.wire.specs.declared.Counted.the-variants as wrote
 use Rattle.sedna_write.specs.Writing.{judgementBy, judgement}
-use Rattle.sedna_c.specs.Codes.{sideReading, readCode, fieldsLeft, optionCode, optionLeft}
+use Rattle.sedna_c.specs.Codes.{sideReading, readCode, fieldsAfter, optionCode, optionFieldsAfter}
 use Rattle.wire.proofs.Branches.{apart}
 use Rattle.sedna_laws.proofs.Bytes.{bytes-part}
 use Rattle.sedna_laws.proofs.Options.{option-exact, option-inside}
@@ -85,10 +85,10 @@ unfolding sideReading
 side-nobody side bytes o p = rw (o, p)
 
 module _ (side : ℕ) (bytes lent : List ℕ) (are : IsBytes bytes) where
-  by-side : (s : Side) → SideOf side s → ReadRight side bytes lent (answered (readCode (located (reading s bytes)) (length lent))) (fieldsLeft (located (reading s bytes)) lent)
+  by-side : (s : Side) → SideOf side s → ReadRight side bytes lent (answered (readCode (located (reading s bytes)) (length lent))) (fieldsAfter (located (reading s bytes)) lent)
   by-side s is = by (reading s bytes) refl (ltb (length lent) 10) refl
     where
-      by : (a : Answer) → reading s bytes ≡ a → (t : Bool) → ltb (length lent) 10 ≡ t → ReadRight side bytes lent (answered (readCode (located a) (length lent))) (fieldsLeft (located a) lent)
+      by : (a : Answer) → reading s bytes ≡ a → (t : Bool) → ltb (length lent) 10 ≡ t → ReadRight side bytes lent (answered (readCode (located a) (length lent))) (fieldsAfter (located a) lent)
       by (Answer.refused r) e t q = rw (refused r) (ReadRight.unread r (record { side = s; is = is; read = e }))
       by (Answer.accepted m n) e true short = rw (short, refused NoRoom) (ReadRight.no-room m n (record { side = s; is = is; read = e }) (ltb-true (length lent) 10 short))
       by (Answer.accepted m n) e false room =
@@ -96,16 +96,16 @@ module _ (side : ℕ) (bytes lent : List ℕ) (are : IsBytes bytes) where
           (ReadRight.accepted m n _ (record { side = s; is = is; read = e }) (ltb-false (length lent) 10 room)
           (tells s bytes are m n e (drop 10 lent)) (behind (m .instruction) (placesOf 8 (n - 8) (m .body)) (drop 10 lent)))
 
-  read : ReadRight side bytes lent (answered (readCode (sideReading side bytes) (length lent))) (fieldsLeft (sideReading side bytes) lent)
+  read : ReadRight side bytes lent (answered (readCode (sideReading side bytes) (length lent))) (fieldsAfter (sideReading side bytes) lent)
   read = by (sides side)
     where
-      by : Sides side → ReadRight side bytes lent (answered (readCode (sideReading side bytes) (length lent))) (fieldsLeft (sideReading side bytes) lent)
+      by : Sides side → ReadRight side bytes lent (answered (readCode (sideReading side bytes) (length lent))) (fieldsAfter (sideReading side bytes) lent)
       by (Sides.one e) = rw (side-read side Client bytes (is-client e)) (by-side Client (is-client e))
       by (Sides.two o e) = rw (side-read side Server bytes (is-server e)) (by-side Server (is-server e))
       by (Sides.neither o p none) = rw (side-nobody side bytes o p, refused ValueNotAllowed) (ReadRight.nobody none)
 
 option-there : (bytes lent : List ℕ) (o : OptionPlace) → ((id : ℕ) (v : Place) → o ≡ place.At id v → Inside bytes (v .start) (v .len))
-    → OptionRight bytes lent (optionIn bytes o) (answered (optionCode o (length lent))) (optionLeft o lent)
+    → OptionRight bytes lent (optionIn bytes o) (answered (optionCode o (length lent))) (optionFieldsAfter o lent)
 option-there bytes lent place.Missing h = rw (counted 0 (omega arith)) OptionRight.missing
 option-there bytes lent (place.At id v) h = by (ltb (length lent) 3) refl
   where
@@ -129,9 +129,9 @@ option bytes are start length′ k lent = option-there bytes lent (optionAt k st
 
 options : (side : ℕ) (bytes f : List ℕ) → IsBytes bytes → 10 ≤ length f
     → (i n : ℕ) (ps : List Pair) → ReadsAs side bytes (Answer.accepted (message i (Body.options ps)) n)
-    → (fieldsLeft (sideReading side bytes) f at COUNT ≡ length ps)
+    → (fieldsAfter (sideReading side bytes) f at COUNT ≡ length ps)
     × ((k : ℕ) (lent : List ℕ)
-    → OptionCalled bytes (fieldsLeft (sideReading side bytes) f at START-1) (fieldsLeft (sideReading side bytes) f at LENGTH-1) k lent (getElem? ps k))
+    → OptionCalled bytes (fieldsAfter (sideReading side bytes) f at START-1) (fieldsAfter (sideReading side bytes) f at LENGTH-1) k lent (getElem? ps k))
 options side bytes f are room i n ps r =
     rw (side-read side (r .side) bytes (r .is), r .read, le-ltb (length f) 10 room)
     (refl, λ k lent. subst (OptionCalled bytes 8 (n - 8) k lent) (option-exact (r .side) bytes are i n ps (r .read) k) (option bytes are 8 (n - 8) k lent))

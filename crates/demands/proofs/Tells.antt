@@ -22,7 +22,7 @@ use Rattle.sedna_read.specs.declared.UrlPlace.the-variants as url
 use Rattle.sedna_read.specs.Meaning.{bodyIn, optionIn}
 use Rattle.sedna_read.specs.Places.{placesOf, optionAt}
 use Rattle.sedna_read.specs.Reading.{Answer, reading}
-use Rattle.sedna_c.specs.Codes.{fieldsOf, optionLeft}
+use Rattle.sedna_c.specs.Codes.{fieldsOf, optionFieldsAfter}
 use Rattle.wire.proofs.Branches.{apart}
 use Rattle.sedna_laws.proofs.Exact.{exact, front-split}
 use Rattle.sedna_laws.proofs.Meaning.{meaning-located}
@@ -52,13 +52,13 @@ pub read-count : (side : Side) (s : List ℕ) → IsBytes s → (m : Message) (n
 read-count side s h m n e = let short = read-short side s h m n e in counted n (omega (arith, short))
 
 -- the option that three numbers mean
-option-told : (s : List ℕ) (o : OptionPlace) (p : Pair) → optionIn s o ≡ some p → pairTold s (optionLeft o (0 ∷ 0 ∷ 0 ∷ [])) ≡ p
+option-told : (s : List ℕ) (o : OptionPlace) (p : Pair) → optionIn s o ≡ some p → pairTold s (optionFieldsAfter o (0 ∷ 0 ∷ 0 ∷ [])) ≡ p
 option-told s option.Missing p e = apart (cc)
 option-told s (option.At id v) p e = cc
 
 -- all of them
 options-told : (s : List ℕ) (ps : List Pair) (f : ℕ → OptionPlace) → ((k : ℕ) → optionIn s (f k) ≡ getElem? ps k)
-    → upTo (length ps) (λ k. pairTold s (optionLeft (f k) (0 ∷ 0 ∷ 0 ∷ []))) ≡ ps
+    → upTo (length ps) (λ k. pairTold s (optionFieldsAfter (f k) (0 ∷ 0 ∷ 0 ∷ []))) ≡ ps
 options-told s [] f h = refl
 options-told s (p ∷ ps) f h = λ i. option-told s (f 0) p (h 0) i ∷ options-told s ps (λ k. f (suc k)) (λ k. h (suc k)) i
 

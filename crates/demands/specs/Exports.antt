@@ -7,14 +7,14 @@ use Rattle.wire.specs.{Calls.Done, Calls.recordAfter, Calls.keptAfter, Calls.Al
 use Rattle.sedna.specs.{declared.Side.Side, Message.Message}
 use Rattle.sedna_read.specs.Reading.{Answer}
 use Rattle.grammar.specs.{Conversation.Whole, Conversation.Begins, Turn.HasTurn}
-use Rattle.sedna_c.specs.Sessions.{freshCode, freshLeft, stepCode, stepLeft, stepFields, closedCode, turnCode}
+use Rattle.sedna_c.specs.Sessions.{freshCode, freshAfter, stepCode, sessionAfter, stepFields, closedCode, turnCode}
 use Rattle.demands.specs.Answered.{Answered, answered, Call, Told, unchanged}
 use Rattle.demands.specs.Header.{Nobody, ReadsAs, offeredBy, TurnOf, FIELDS, SESSION-BYTES, Tells}
 
 -- a call of `kdr_step` on the session's bytes, by the right sides of its contract
 abbrev pub called : List ℕ → Call → Done (List ℕ) Told
 called d c = record {
-  record-after = stepLeft d (c .side) (c .bytes) (length (c .numbers));
+  record-after = sessionAfter d (c .side) (c .bytes) (length (c .numbers));
   answer = record {
     answer = answered (stepCode d (c .side) (c .bytes) (length (c .numbers)));
     numbers = stepFields d (c .side) (c .bytes) (c .numbers);
@@ -75,11 +75,11 @@ pub record After (d : List ℕ) (calls : List Call) : Type 0 where
 
 pub record Demand3Exports : Type 0 where
   -- from what `kdr_fresh` leaves in two bytes or more
-  pub after-any-calls : (d : List ℕ) → SESSION-BYTES ≤ length d → (calls : List Call) → After (freshLeft d) calls
+  pub after-any-calls : (d : List ℕ) → SESSION-BYTES ≤ length d → (calls : List Call) → After (freshAfter d) calls
   -- which answers 0, and leaves the bytes behind those two
   pub fresh : (d : List ℕ) → SESSION-BYTES ≤ length d
-      → (answered (freshCode d) ≡ Answered.count 0) × (drop SESSION-BYTES (freshLeft d) ≡ drop SESSION-BYTES d)
+      → (answered (freshCode d) ≡ Answered.count 0) × (drop SESSION-BYTES (freshAfter d) ≡ drop SESSION-BYTES d)
   -- with fewer, `kdr_fresh` and `kdr_step` refuse with 10, and leave everything as it was; and `kdr_closed` and `kdr_turn` answer 0
   pub no-record : (d : List ℕ) → length d < SESSION-BYTES → (c : Call)
-      → (answered (freshCode d) ≡ Answered.refusal 10) × (freshLeft d ≡ d) × (called d c ≡ unchanged 10 d c) × (closedCode d ≡ 0)
+      → (answered (freshCode d) ≡ Answered.refusal 10) × (freshAfter d ≡ d) × (called d c ≡ unchanged 10 d c) × (closedCode d ≡ 0)
       × (turnCode d ≡ 0)

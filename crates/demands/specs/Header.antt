@@ -6,7 +6,7 @@ use lib.{Dec.eqb, ListN.length, ListN.getD, ListN.take, ListN.drop}
 use Rattle.wire.specs.{Bytes.if, Every.Every}
 use Rattle.sedna.specs.{declared.Side.Side, Message.Url, Message.Pair, Message.Body, Message.Message}
 use Rattle.sedna_read.specs.{Places.optionAt, Reading.Answer, Reading.reading}
-use Rattle.sedna_c.specs.Codes.{optionLeft}
+use Rattle.sedna_c.specs.Codes.{optionFieldsAfter}
 
 infixl 90 _at_
 -- the number of that name among those told
@@ -164,7 +164,7 @@ pairTold bytes f = record { id = f at OPTION-ID; value = slice bytes (f at OPTIO
 
 -- the three numbers that `kdr_option` leaves for option k, by its contract
 abbrev pub optionNumbers : List ℕ → ℕ → ℕ → ℕ → List ℕ
-optionNumbers bytes start length k = optionLeft (optionAt k start (slice bytes start length)) (0 ∷ 0 ∷ 0 ∷ [])
+optionNumbers bytes start length k = optionFieldsAfter (optionAt k start (slice bytes start length)) (0 ∷ 0 ∷ 0 ∷ [])
 
 -- the header's table of the ten numbers, row by row: the body that they mean, "numbers that a shape does not use are 0"
 pub data Row (bytes f : List ℕ) : Body → Type 0 where

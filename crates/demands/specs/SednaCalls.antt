@@ -8,7 +8,7 @@ use Rattle.sedna.specs.{declared.Shape.Shape, Encode.encode, Message.Pair, Mess
 use Rattle.sedna_read.specs.{Meaning.optionIn, Places.optionAt, Reading.Answer}
 use Rattle.sedna_write.specs.{Pairs.given, Pairs.optionsMessage, Pairs.optionsWritten, Writing.judgement}
 use Rattle.sedna_laws.specs.Unwritten.{UnwrittenLists}
-use Rattle.sedna_c.specs.Codes.{sideReading, readCode, fieldsLeft, optionCode, optionLeft}
+use Rattle.sedna_c.specs.Codes.{sideReading, readCode, fieldsAfter, optionCode, optionFieldsAfter}
 use Rattle.answer_c.specs.Codes.{countedCode}
 use Rattle.demands.specs.Answered.{Answered, answered}
 use Rattle.demands.specs.Header.{_at_, slice, Inside, Nobody, ReadsAs, START-1, LENGTH-1, COUNT, FIELDS, pairTold, Tells, OPTION-START, OPTION-LENGTH}
@@ -40,7 +40,7 @@ pub data OptionRight (bytes lent : List ℕ) : Option Pair → Answered → List
 abbrev pub OptionCalled : List ℕ → ℕ → ℕ → ℕ → List ℕ → Option Pair → Type 0
 OptionCalled bytes start length′ k lent o =
     OptionRight bytes lent o (answered (optionCode (optionAt k start (slice bytes start length′)) (length lent)))
-    (optionLeft (optionAt k start (slice bytes start length′)) lent)
+    (optionFieldsAfter (optionAt k start (slice bytes start length′)) lent)
 
 -- what writing answers, as counts and refusals
 abbrev pub writtenAs : Counted → Answered
@@ -52,16 +52,16 @@ pub record SednaCalls : Type 0 where
   pub one-message : (bytes f : List ℕ) (m m′ : Message) → Tells bytes f m → Tells bytes f m′ → m ≡ m′
   -- `kdr_read`, for any side's number, bytes and lent numbers
   pub read : (side : ℕ) (bytes lent : List ℕ) → IsBytes bytes
-      → ReadRight side bytes lent (answered (readCode (sideReading side bytes) (length lent))) (fieldsLeft (sideReading side bytes) lent)
+      → ReadRight side bytes lent (answered (readCode (sideReading side bytes) (length lent))) (fieldsAfter (sideReading side bytes) lent)
   -- `kdr_option`, for any arguments: what `optionAt` finds there. Of a message that was read, see `options`
   pub option : (bytes : List ℕ) → IsBytes bytes → (start length′ k : ℕ) (lent : List ℕ)
       → OptionCalled bytes start length′ k lent (optionIn bytes (optionAt k start (slice bytes start length′)))
   -- of a SetOptions with ps that `kdr_read` told: COUNT is how many there are, and by its START_1 and LENGTH_1 `kdr_option` hands out the k-th of ps
   pub options : (side : ℕ) (bytes f : List ℕ) → IsBytes bytes → FIELDS ≤ length f
       → (i n : ℕ) (ps : List Pair) → ReadsAs side bytes (Answer.accepted (message i (Body.options ps)) n)
-      → (fieldsLeft (sideReading side bytes) f at COUNT ≡ length ps)
+      → (fieldsAfter (sideReading side bytes) f at COUNT ≡ length ps)
       × ((k : ℕ) (lent : List ℕ)
-      → OptionCalled bytes (fieldsLeft (sideReading side bytes) f at START-1) (fieldsLeft (sideReading side bytes) f at LENGTH-1) k lent (getElem? ps k))
+      → OptionCalled bytes (fieldsAfter (sideReading side bytes) f at START-1) (fieldsAfter (sideReading side bytes) f at LENGTH-1) k lent (getElem? ps k))
   -- each call that writes a message: `written` is such a judgement, and `Demand2.sedna.writing-exact`, `Demand1.sedna.writing-refused` say which
   pub write : (instruction : ℕ) (shape : Shape) (ok : Bool) (n room : ℕ)
       → answered (countedCode (judgement instruction shape ok n room)) ≡ writtenAs (judgement instruction shape ok n room)

@@ -49,26 +49,26 @@ readCode (Reading.Refused r) room = refusalCode r
 readCode (Reading.Message i p n) room = if (ltb room 10) (refusalCode NoRoom) n
 
 -- the lent fields then
-abbrev pub fieldsLeft : Reading → List ℕ → List ℕ
-fieldsLeft (Reading.Refused r) d = d
-fieldsLeft (Reading.Message i p n) d = if (ltb (length d) 10) d (fieldsOf i p ++ drop 10 d)
+abbrev pub fieldsAfter : Reading → List ℕ → List ℕ
+fieldsAfter (Reading.Refused r) d = d
+fieldsAfter (Reading.Message i p n) d = if (ltb (length d) 10) d (fieldsOf i p ++ drop 10 d)
 
 -- the contract of a call that tells an answer: its number, and the lent fields
 abbrev pub TellsReading : Reading → List ℕ → ℕ → List ℕ → Type 0
-TellsReading answer fields = Gives (readCode answer (length fields)) (fieldsLeft answer fields)
+TellsReading answer fields = Gives (readCode answer (length fields)) (fieldsAfter answer fields)
 
 -- 1 where there is the option, or 10 where the lent fields have no room for three numbers; 0 where there is none
 abbrev pub optionCode : OptionPlace → ℕ → ℕ
 optionCode OptionPlace.Missing room = 0
 optionCode (OptionPlace.At id v) room = if (ltb room 3) (refusalCode NoRoom) 1
 
-abbrev pub optionLeft : OptionPlace → List ℕ → List ℕ
-optionLeft OptionPlace.Missing d = d
-optionLeft (OptionPlace.At id v) d = if (ltb (length d) 3) d (id ∷ v .start ∷ v .len ∷ drop 3 d)
+abbrev pub optionFieldsAfter : OptionPlace → List ℕ → List ℕ
+optionFieldsAfter OptionPlace.Missing d = d
+optionFieldsAfter (OptionPlace.At id v) d = if (ltb (length d) 3) d (id ∷ v .start ∷ v .len ∷ drop 3 d)
 
 -- the contract of the call that tells an option
 abbrev pub TellsOption : OptionPlace → List ℕ → ℕ → List ℕ → Type 0
-TellsOption option fields = Gives (optionCode option (length fields)) (optionLeft option fields)
+TellsOption option fields = Gives (optionCode option (length fields)) (optionFieldsAfter option fields)
 
 -- the contract of a call that writes a message in front of the output, and of one whose options are given as three lists
 abbrev pub WritesMessageByCode : List ℕ → Message → ℕ → List ℕ → Type 0

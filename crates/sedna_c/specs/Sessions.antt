@@ -7,7 +7,7 @@ use Rattle.answer_c.specs.Codes.{refusalCode}
 use Rattle.sedna.specs.declared.Side.the-variants.{Client, Server}
 use Rattle.sedna_read.specs.declared.Reading.{Reading}
 use Rattle.session.specs.{declared.Session.Session, declared.Stepped.Stepped, declared.Turn.Turn, Step.freshSession, Step.stepped, Step.closedOf, Step.turnOf}
-use Rattle.sedna_c.specs.{declared.sides.Sender.Sender, Codes.senderOf, Codes.readCode, Codes.fieldsLeft}
+use Rattle.sedna_c.specs.{declared.sides.Sender.Sender, Codes.senderOf, Codes.readCode, Codes.fieldsAfter}
 
 -- the record in the first two bytes: phase, version
 abbrev pub recordIn : List ℕ → Session
@@ -21,8 +21,8 @@ recordPut s d = s .phase ∷ s .version ∷ drop 2 d
 abbrev pub freshCode : List ℕ → ℕ
 freshCode d = if (ltb (length d) 2) (refusalCode NoRoom) 0
 
-abbrev pub freshLeft : List ℕ → List ℕ
-freshLeft d = if (ltb (length d) 2) d (recordPut freshSession d)
+abbrev pub freshAfter : List ℕ → List ℕ
+freshAfter d = if (ltb (length d) 2) d (recordPut freshSession d)
 
 -- 8 for a side that is none, ahead of what the step answers
 abbrev pub stepFrom : Session → Sender → List ℕ → Stepped
@@ -38,7 +38,7 @@ stepCode d side bytes room = if (ltb (length d) 2) (refusalCode NoRoom) (readCod
 
 -- the lent fields then
 abbrev pub stepFields : List ℕ → ℕ → List ℕ → List ℕ → List ℕ
-stepFields d side bytes fields = if (ltb (length d) 2) fields (fieldsLeft (sideStepped (recordIn d) side bytes .answer) fields)
+stepFields d side bytes fields = if (ltb (length d) 2) fields (fieldsAfter (sideStepped (recordIn d) side bytes .answer) fields)
 
 -- the record after an accepted message, where the lent fields have room for it
 abbrev pub kept : Reading → Session → ℕ → List ℕ → List ℕ
@@ -46,8 +46,8 @@ kept (Reading.Refused r) s room d = d
 kept (Reading.Message i p n) s room d = if (ltb room 10) d (recordPut s d)
 
 -- the session's bytes then
-abbrev pub stepLeft : List ℕ → ℕ → List ℕ → ℕ → List ℕ
-stepLeft d side bytes room =
+abbrev pub sessionAfter : List ℕ → ℕ → List ℕ → ℕ → List ℕ
+sessionAfter d side bytes room =
     if (ltb (length d) 2)
     d
     (kept (sideStepped (recordIn d) side bytes .answer) (sideStepped (recordIn d) side bytes .session) room d)
@@ -55,7 +55,7 @@ stepLeft d side bytes room =
 -- the contract of the step: its number, the session's bytes and the lent fields
 pub record Steps (d : List ℕ) (side : ℕ) (bytes fields : List ℕ) (r : ℕ) (d′ fields′ : List ℕ) : Type 0 where
   pub answers : r ≡ stepCode d side bytes (length fields)
-  pub leaves-session : d′ ≡ stepLeft d side bytes (length fields)
+  pub leaves-session : d′ ≡ sessionAfter d side bytes (length fields)
   pub leaves-fields : fields′ ≡ stepFields d side bytes fields
 
 -- 1 where a conversation is over, else 0

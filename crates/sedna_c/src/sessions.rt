@@ -7,7 +7,7 @@ ghost use Rattle.wire.specs.Bytes.{if};
 ghost use Rattle.wire.specs.Call.{Gives};
 ghost use Rattle.session.specs.Machine.{moveOf};
 ghost use Rattle.sedna_c.specs.Codes.{sideReading, TellsReading};
-ghost use Rattle.sedna_c.specs.Sessions.{recordIn, recordPut, freshCode, freshLeft, Steps, closedCode, turnCode, turnNumber};
+ghost use Rattle.sedna_c.specs.Sessions.{recordIn, recordPut, freshCode, freshAfter, Steps, closedCode, turnCode, turnNumber};
 ghost use Rattle.sedna_c.specs.inner.Taking.{phaseAfter, Settles, Takes};
 use crate::sides::Sender;
 use crate::sides::sender_of;
@@ -43,7 +43,7 @@ fn put(session: &mut [u8], after: Session)
 // Puts a fresh session into the first two bytes.
 #[no_mangle]
 pub extern "C" fn kdr_fresh(session: &mut [u8]) -> u64
-    ensures { λ r. ⌜ Gives (freshCode (now (session .entry))) (freshLeft (now (session .entry))) r (now (session .exit)) ⌝ }
+    ensures { λ r. ⌜ Gives (freshCode (now (session .entry))) (freshAfter (now (session .entry))) r (now (session .exit)) ⌝ }
 {
     if session.len() < 2 {
         return refusal_code(Refusal::NoRoom);
