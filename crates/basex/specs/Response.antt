@@ -4,7 +4,7 @@ use Prim.Native.Nat.{ℕ, _-_}
 use lib.{Dec.eqb, ListN.length, ListN.drop}
 use Rattle.wire.specs.{Bytes.if, Every.Every}
 use Rattle.basex.specs.{declared.Reply.Reply, declared.Found.the-variants.Known}
-use Rattle.basex.specs.Kinds.{findOf, ahead, errorBehind, behind, listed, isFull, idAllowed, itemStrings, statusAllowed}
+use Rattle.basex.specs.Kinds.{findOf, ahead, behind, listed, isFull, idAllowed, itemStrings, statusAllowed}
 use Rattle.basex.specs.Texts.{strings}
 
 -- "An item is a type id …, in FULL a URI string after 12, 14 and 82, and a string."
@@ -53,10 +53,18 @@ pub record Published (reply : Reply) (r : Response) : Type 0 where
   pub ended : statusAllowed (r .status) ≡ true
   pub last : length (r .error) ≡ behind reply (r .status)
 
--- the error string of a response, none but with status 01: the one behind the status ("01 and an error string"), or the last of those ahead of it
--- ("with status 01 the last string is the error": of COMMAND the second, of CREATE, ADD, PUT, PUTBINARY the only one)
+-- where the error string is, said apart from the columns: "with status 01 the last string is the error" (COMMAND: the second; CREATE, ADD, PUT, PUTBINARY: the
+-- only one), or the one behind the status ("01 and an error string")
+abbrev pub errorAs : Reply → Response → List (List ℕ)
+errorAs Reply.Command r = drop (length (r .texts) - 1) (r .texts)
+errorAs Reply.Create r = drop (length (r .texts) - 1) (r .texts)
+errorAs Reply.Query r = r .error
+errorAs Reply.Results r = r .error
+errorAs Reply.Full r = r .error
+
+-- the error string of a response, none but with status 01
 unfoldable pub errorOf : Reply → Response → List (List ℕ)
-errorOf reply r = if (eqb (r .status) 1) (if (errorBehind reply) (r .error) (drop (length (r .texts) - 1) (r .texts))) []
+errorOf reply r = if (eqb (r .status) 1) (errorAs reply r) []
 
 -- in front of s stands the encoding of r, a response to a request that starts with the byte, and rest behind it
 pub record Stands (kind : ℕ) (r : Response) (s rest : List ℕ) : Type 0 where

@@ -3,12 +3,12 @@
 use mathlib.Core.{Bool.Bool, Bool.true, Bool.false, List.List, List.[], List._∷_, List._++_, List.flatten, List.map, Logic._↔_, Path._≡_}
 use Prim.Native.Nat.{ℕ, _+_, _-_, _≤_, _<_}
 use lib.ListN.{length, take, drop, getD}
-use Rattle.wire.specs.{Bytes.if, Bytes.splice, Call.inRoom, Call.outputAfter, Fields.Got, declared.Refusal.Refusal, declared.Counted.Counted}
+use Rattle.wire.specs.{Bytes.splice, Call.inRoom, Call.outputAfter, Fields.Got, declared.Refusal.Refusal, declared.Counted.Counted}
 use Rattle.basex_string.specs.{declared.StringAt.StringAt, Answers.outputRead, Strings.string}
 use Rattle.basex_string.specs.Answers as decoding
 use Rattle.basex_string.specs.Scan as strings
 use Rattle.basex.specs.{declared.Found.the-variants.Known, declared.Found.the-variants.Unknown, declared.Reply.Reply}
-use Rattle.basex.specs.Kinds.{findOf, rowByte, ahead, errorBehind, behind, listed, isFull, idAllowed, hasUri}
+use Rattle.basex.specs.Kinds.{findOf, rowByte, ahead, behind, listed, isFull, idAllowed, hasUri}
 use Rattle.basex.specs.{Request.Request, Request.opens, Response.Item, Response.Response, Response.itemBytes, Response.ItemAllowed, Texts.lengthAt}
 use Rattle.basex.specs.Request as request
 use Rattle.basex.specs.Response as response
@@ -249,9 +249,13 @@ pub record InputSuffices : Type 0 where
   pub response-short : (kind : ℕ) (s : List ℕ) (r : Response) (rest : List ℕ) → responses.reading kind s ≡ Got.got r rest
       → length (flatten (allTexts r)) ≤ length s
 
--- which of a response's parts is the error where there is one: the last, behind the status, or the last of those ahead
+-- which of a response's parts is the error where there is one
 abbrev pub errorPart : Reply → ℕ
-errorPart reply = if (errorBehind reply) 3 (ahead reply - 1)
+errorPart Reply.Command = 1
+errorPart Reply.Create = 0
+errorPart Reply.Query = 3
+errorPart Reply.Results = 3
+errorPart Reply.Full = 3
 
 -- the one error string of a response: the last of its strings, and one of the parts that are told; its place is behind all the others
 pub record OneError (reply : Reply) (r : Response) : Type 0 where
