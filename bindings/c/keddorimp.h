@@ -13,7 +13,8 @@
  * What is proved is the contract that each function has in the crate of that name. That this header
  * declares the functions as they are is not proved: it is written by hand, and tests/c/run calls
  * each of them through it. "Document 01" is the paper whose numbers and words these are; typed
- * values, with refusals 15 and 16, are request 1 of "document 02".
+ * values, with refusals 15 and 16, are request 1 of "document 02", and a file that ends with
+ * BulkLoadError after some of its portions is request 2.
  *
  * Lent memory. A slice passes as a pointer to its first element and the number of its elements, one
  * argument behind the other. The proofs rest on what a caller in C has to see to: so many elements
@@ -51,9 +52,9 @@ typedef char kdr_a_length_has_64_bits[sizeof(size_t) == 8 ? 1 : -1];
 
 /* The version of this header and of the archives that it was written for. */
 #define KDR_VERSION_MAJOR 0
-#define KDR_VERSION_MINOR 2
+#define KDR_VERSION_MINOR 3
 #define KDR_VERSION_PATCH 0
-#define KDR_VERSION "0.2.0"
+#define KDR_VERSION "0.3.0"
 
 /* ---- Refusals ---- */
 
@@ -318,7 +319,8 @@ uint64_t kdr_write_item_url(uint8_t *out, size_t out_len, uint32_t instruction,
 /* ---- The session (sedna_c) ---- */
 
 /* The bytes of a session. The caller keeps them from step to step and may copy them; they belong to
- * the library, and mean something only to the four functions here. */
+ * the library, and mean something only to the four functions here. They do not outlive a version:
+ * what 0.2.0 left means something else to 0.3.0. */
 enum {
     KDR_SESSION_BYTES = 2
 };
@@ -330,7 +332,10 @@ uint64_t kdr_fresh(uint8_t *session, size_t session_len);
  * conversation goes on with it, the answer and `fields` are those of kdr_read, and the session is
  * the one behind that message. Refused: 10 where fewer than two bytes of a session are lent; 8 for
  * a side that is none; then 1 to 8 as in reading; 9 where no conversation goes on with the message;
- * last 10 where fewer than ten numbers are lent, and then the session is not stepped either. */
+ * last 10 where fewer than ten numbers are lent, and then the session is not stepped either.
+ *
+ * In a file BulkLoadError is accepted after any number of portions (up to 0.2.0 only in place of
+ * all of them); behind it only BulkLoadFailed or ErrorResponse is. */
 uint64_t kdr_step(uint8_t *session, size_t session_len, uint8_t side,
                   const uint8_t *bytes, size_t bytes_len, uint64_t *fields, size_t fields_len);
 

@@ -57,9 +57,9 @@ fn of_version(input: &Input, version: u8) -> Input {
 pub mod tests {
     use super::*;
 
-    /// Phases with their versions: three ahead of the version and an end there; then 29 in each,
+    /// Phases with their versions: three ahead of the version and an end there; then 28 in each,
     /// without the update's DebugInfo in 1.0 and the four waits for options in 1.0 and 2.0.
-    pub const PLACES: usize = 4 + 4 * 29 - 1 - 2 * 4;
+    pub const PLACES: usize = 4 + 4 * 28 - 1 - 2 * 4;
 
     #[test]
     fn all_phases_and_versions_are_reached() {
@@ -71,7 +71,7 @@ pub mod tests {
         }
         assert_eq!(places.len(), PLACES);
         let phases: BTreeSet<_> = places.iter().map(Session::phase).collect();
-        assert_eq!(phases.len(), 32);
+        assert_eq!(phases.len(), 31);
         assert_eq!(each_message().len(), 46 + 3);
     }
 }

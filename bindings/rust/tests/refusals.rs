@@ -111,6 +111,61 @@ fn r9_out_of_turn() {
     assert_eq!((session.turn(), session.closed()), (None, true));
 }
 
+/// A session of that version whose statement is answered by a file's name.
+fn in_file(version: u8) -> Session {
+    use Side::{Client, Server};
+    let mut session = Session::new();
+    let parameters = [&[version][..], &[0; 11]].concat();
+    for (side, instruction, body) in [
+        (Client, Instruction::START_UP, &[][..]),
+        (Server, Instruction::SEND_SESSION_PARAMETERS, &[]),
+        (Client, Instruction::SESSION_PARAMETERS, &parameters),
+        (Server, Instruction::SEND_AUTH_PARAMETERS, &[]),
+        (Client, Instruction::AUTHENTICATION_PARAMETERS, &[0; 5]),
+        (Server, Instruction::AUTHENTICATION_OK, &[]),
+        (Client, Instruction::BEGIN, &[]),
+        (Server, Instruction::BEGIN_OK, &[]),
+        (Client, Instruction::EXECUTE, &[0; 6]),
+        (Server, Instruction::BULK_LOAD_FILE_NAME, &[0; 5]),
+    ] {
+        session.step(side, &message(instruction, body.len() as u32, body)).unwrap();
+    }
+    session
+}
+
+/// "BulkLoadError may stand after any number of portions instead of BulkLoadEnd", in the first file
+/// and in a further one; behind it come BulkLoadFailed or ErrorResponse, and neither
+/// BulkLoadSucceeded nor another file.
+#[test]
+fn r9_not_for_a_disk_error() {
+    let portion = message(Instruction::BULK_LOAD_PORTION, 5, &[0; 5]);
+    let lost = message(Instruction::BULK_LOAD_ERROR, 9, &[0; 9]);
+    let succeeded = message(Instruction::BULK_LOAD_SUCCEEDED, 0, &[]);
+    let another = message(Instruction::BULK_LOAD_FILE_NAME, 5, &[0; 5]);
+    let end = message(Instruction::BULK_LOAD_END, 0, &[]);
+    let commit = message(Instruction::COMMIT, 0, &[]);
+    for (version, portions) in (1..=4).flat_map(|version| (0..=2).map(move |n| (version, n))) {
+        let mut session = in_file(version);
+        if version > 1 {
+            session.step(Side::Client, &portion).unwrap();
+            session.step(Side::Client, &end).unwrap();
+            session.step(Side::Server, &another).unwrap();
+        }
+        for _ in 0..portions {
+            session.step(Side::Client, &portion).unwrap();
+        }
+        session.step(Side::Client, &lost).unwrap();
+        for stray in [&succeeded, &another] {
+            assert_eq!(session.step(Side::Server, stray), Err(Refusal::OutOfOrder));
+        }
+        for answer in [Instruction::BULK_LOAD_FAILED, Instruction::ERROR_RESPONSE] {
+            let mut session = session.clone();
+            session.step(Side::Server, &message(answer, 9, &[0; 9])).unwrap();
+            session.step(Side::Client, &commit).unwrap();
+        }
+    }
+}
+
 /// What comes ahead of its turn is judged as any message: half of one may become the ErrorResponse
 /// that is taken, and what is malformed is refused by its own number.
 #[test]

@@ -14,3 +14,4 @@ pub mod Tells
 pub mod Transcript
 pub mod ValueCalls
 pub mod Request1
+pub mod Request2

@@ -8,6 +8,7 @@ use Rattle.demands.proofs.Exports.{demand-3-exports}
 use Rattle.demands.proofs.JoinCalls.{join-calls}
 use Rattle.demands.proofs.PartsCalls.{parts-calls}
 use Rattle.demands.proofs.Request1.{request-1}
+use Rattle.demands.proofs.Request2.{request-2}
 use Rattle.demands.proofs.SednaCalls.{sedna-calls}
 use Rattle.demands.proofs.Transcript.{demand-3-transcript}
 
@@ -16,6 +17,7 @@ guarantees = record {
   messages = demand-2 .sedna;
   basex = demand-2 .basex;
   session = demand-3;
+  disk-error = request-2;
   joining = demand-1 .parts;
   cutting = demand-2 .parts;
   values = request-1;

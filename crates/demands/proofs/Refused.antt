@@ -38,7 +38,8 @@ use Rattle.basex_laws.proofs.Laws.{refused-left}
 use Rattle.basex_laws.proofs.Listed.{OfFields}
 use Rattle.basex_laws.proofs.Moments.{string-moments, request-moments, item-moments, response-moments}
 use Rattle.basex_laws.proofs.Refusals.{reading-refuses}
-use Rattle.demands.specs.Demand1.{OneOf, BaseX}
+use Rattle.wire.specs.Every.{OneOf}
+use Rattle.demands.specs.Demand1.{BaseX}
 
 number : {r q : Refusal} → r ≡ q → numberOf r ≡ numberOf q
 number e = ap numberOf e

@@ -9,10 +9,10 @@
 -- `bufferAfter`, and the functions of BaseX answer and leave what is named in the last record.
 --
 -- Here stands which refusal each of them gives, and when, by the published formats; and what a refused call leaves. When a step gives 9 is demand 3's.
-use mathlib.Core.{Bool.Bool, Bool.true, Bool.false, List.List, List.[], List._∷_, List._++_, Logic._↔_, Logic._⊎_, Path._≡_}
+use mathlib.Core.{Bool.Bool, Bool.true, Bool.false, List.List, List.[], List._∷_, List._++_, Logic._↔_, Path._≡_}
 use Prim.Native.Nat.{ℕ, _≤_}
 use lib.ListN.{length, drop}
-use Rattle.wire.specs.{Bytes.IsBytes, Call.inRoom, Call.outputAfter, declared.Refusal.Refusal, Refusals.numberOf, declared.Counted.Counted}
+use Rattle.wire.specs.{Bytes.IsBytes, Call.inRoom, Call.outputAfter, Every.OneOf, declared.Refusal.Refusal, Refusals.numberOf, declared.Counted.Counted}
 use Rattle.sedna.specs.{declared.Side.Side, Encode.bodyBytes, Message.Body, Message.Message}
 use Rattle.sedna_read.specs.{declared.Reading.Reading, Reading.Answer, Reading.reading}
 use Rattle.sedna_write.specs.{Pairs.sum, Pairs.given, Pairs.optionsWritten, Writing.written}
@@ -30,11 +30,6 @@ use Rattle.basex_request.specs.Reading as requests
 use Rattle.basex_request.specs.Writing as requesting
 use Rattle.basex_response.specs.{declared.Replied.Replied, Writing.itemWritten, Writing.endWritten}
 use Rattle.basex_response.specs.Reading as responses
-
--- one of those numbers
-abbrev pub OneOf : List ℕ → ℕ → Type 0
-OneOf [] n = ⊥
-OneOf (m ∷ ms) n = (n ≡ m) ⊎ OneOf ms n
 
 -- Sedna's messages and the session. The bytes of a slice are bytes: `IsBytes s` is no condition on a caller
 pub record Sedna : Type 0 where

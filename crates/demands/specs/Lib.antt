@@ -14,3 +14,4 @@ pub mod SednaCalls
 pub mod Transcript
 pub mod ValueCalls
 pub mod Request1
+pub mod Request2

@@ -1,7 +1,9 @@
 pub mod Begun
+pub mod Files
 pub mod Follows
 pub mod Link
 pub mod Phases
 pub mod Published
 pub mod Refused
 pub mod Turn
+pub mod Ways

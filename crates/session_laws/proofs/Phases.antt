@@ -31,7 +31,6 @@ code P.rest-of-text = N.rest-of-text
 code P.next-or-give-up = N.next-or-give-up
 code P.again-or-inside = N.again-or-inside
 code P.file = N.file
-code P.rest-of-file = N.rest-of-file
 code P.start-up-answer = N.start-up-answer
 code P.parameters-answer = N.parameters-answer
 code P.time-answer-out = N.time-answer-out
@@ -58,7 +57,7 @@ code P.closed = N.closed
 phases : List Phase
 phases =
     P.start-up ∷ P.parameters ∷ P.authentication ∷ P.outside ∷ P.inside ∷ P.rest-of-text ∷ P.next-or-give-up ∷ P.again-or-inside ∷ P.file ∷
-    P.rest-of-file ∷ P.start-up-answer ∷ P.parameters-answer ∷ P.time-answer-out ∷ P.set-answer-out ∷ P.reset-answer-out ∷ P.close-answer-out ∷
+    P.start-up-answer ∷ P.parameters-answer ∷ P.time-answer-out ∷ P.set-answer-out ∷ P.reset-answer-out ∷ P.close-answer-out ∷
     P.time-answer-in ∷ P.set-answer-in ∷ P.reset-answer-in ∷ P.close-answer-in ∷ P.load-error-answer ∷ P.authentication-answer ∷ P.begin-answer ∷
     P.statement-answer ∷ P.update-answer ∷ P.delivery ∷ P.rest-of-item ∷ P.again-answer ∷ P.commit-answer ∷ P.rollback-answer ∷ P.file-answer ∷
     P.closed ∷ []
@@ -124,7 +123,6 @@ at P.rest-of-text = (refl, (λ v. refl), (λ v. refl), (λ v. refl))
 at P.next-or-give-up = (refl, (λ v. refl), (λ v. refl), (λ v. refl))
 at P.again-or-inside = (refl, (λ v. refl), (λ v. refl), (λ v. refl))
 at P.file = (refl, (λ v. refl), (λ v. refl), (λ v. refl))
-at P.rest-of-file = (refl, (λ v. refl), (λ v. refl), (λ v. refl))
 at P.start-up-answer = (refl, (λ v. refl), (λ v. refl), (λ v. refl))
 at P.parameters-answer = (refl, (λ v. refl), (λ v. refl), (λ v. refl))
 at P.time-answer-out = (refl, (λ v. refl), (λ v. refl), (λ v. refl))
@@ -160,11 +158,11 @@ code-closed p e = sym (at p .0) ∙ ap decode e
 -- behind the server's phases there is no other
 pub code-last : (p : Phase) → N.closed ≤ code p → p ≡ P.closed
 unfolding decode phases
-code-last p h = by (ltb 31 (code p)) refl
+code-last p h = by (ltb N.closed (code p)) refl
   where
-    by : (t : Bool) → ltb 31 (code p) ≡ t → p ≡ P.closed
-    by true e = let l : 32 ≤ code p = ltb-true 31 (code p) e in sym (at p .0) ∙ List·getD-eq-default phases P.closed l
-    by false e = let l : code p ≤ 31 = ltb-false 31 (code p) e in code-closed p (omega arith)
+    by : (t : Bool) → ltb N.closed (code p) ≡ t → p ≡ P.closed
+    by true e = sym (at p .0) ∙ List·getD-eq-default phases P.closed (ltb-true N.closed (code p) e)
+    by false e = let l : code p ≤ N.closed = ltb-false N.closed (code p) e in code-closed p (omega arith)
 
 -- no phase has the mark of a refused move
 pub code-marks : (p : Phase) → eqb (code p) refused ≡ false

@@ -31,6 +31,7 @@ use Rattle.grammar.proofs.Sendable.{true-T, Sendable}
 use Rattle.session.specs.declared.Session.{Session}
 use Rattle.session.specs.declared.Turn.the-variants.{Of, Over}
 use Rattle.session.specs.Machine.{along, refused, clientRows, moveOf, clientMove, serverMove, next}
+use Rattle.session.specs.Phases as N
 use Rattle.session.specs.Step.{Outcome, versionAfter, settled, turnOf, sideOf}
 use Rattle.session.proofs.Rows.{broken-row}
 use Rattle.session_laws.proofs.Follows.{Follows, begins, whole-closed, last-closed, Settled, settles, moved, nine}
@@ -48,7 +49,6 @@ asks =
     message M.LongQueryEnd Body.empty ∷
     message M.GetNextItem Body.empty ∷
     message M.GetNextItem Body.empty ∷
-    message M.BulkLoadEnd Body.empty ∷
     message M.BulkLoadEnd Body.empty ∷
     []
 
@@ -68,11 +68,11 @@ abbrev takes : Side → ℕ → ℕ → Message → Bool
 takes side v p m =
     if (canSend (m .instruction) (m .body)) (if (is (of side) (sender (findOf (m .instruction)))) (not (eqb (next p v (m .instruction)) refused)) false) false
 
-all-asked : (v : ℕ) → upTo (λ (p : ℕ). takes Client v p (ask p)) 10 ≡ true
+all-asked : (v : ℕ) → upTo (λ (p : ℕ). takes Client v p (ask p)) N.start-up-answer ≡ true
 unfolding ask asks fails canSend findOf rows search bodyBytes string int allBytes allowed versionAllowed next clientMove serverMove
 all-asked v = refl
 
-all-failed : (v : ℕ) → upTo (λ (p : ℕ). takes Server v (suc p) fails) 30 ≡ true
+all-failed : (v : ℕ) → upTo (λ (p : ℕ). takes Server v (suc p) fails) 29 ≡ true
 unfolding ask asks fails canSend findOf rows search bodyBytes string int allBytes allowed versionAllowed next clientMove serverMove
 all-failed v = refl
 
@@ -133,23 +133,23 @@ unfolding next
 moves side m sent p v = ap (λ (f : Found). moveOf f p v (m .instruction)) (find-listed (m .instruction, side, shapeOf (m .body)) (sent .listed))
 
 -- at the server's turn the machine takes nothing from the client
-client-waits : (m : Message) → Published Client m → (p v : ℕ) → 10 ≤ p → next p v (m .instruction) ≡ refused
+client-waits : (m : Message) → Published Client m → (p v : ℕ) → N.start-up-answer ≤ p → next p v (m .instruction) ≡ refused
 unfolding clientMove
 client-waits m sent p v h = moves Client m sent p v ∙ ap (along (m .instruction)) (List·getD-eq-default (clientRows v) [] h)
 
 -- and at the client's turn nothing from the server but ErrorResponse
-server-waits : (m : Message) → Published Server m → (p v : ℕ) → p ≤ 9 → eqb (m .instruction) M.ErrorResponse ≡ false → next p v (m .instruction) ≡ refused
+server-waits : (m : Message) → Published Server m → (p v : ℕ) → p ≤ N.file → eqb (m .instruction) M.ErrorResponse ≡ false → next p v (m .instruction) ≡ refused
 unfolding serverMove
 server-waits m sent zero v h e = moves Server m sent zero v
 server-waits m sent (suc p) v h e = moves Server m sent (suc p) v ∙ ap (along (m .instruction)) (broken-row (suc p) v (omega arith) h) ∙ rw e
 
 -- the server may answer with ErrorResponse at each phase of its own
-fails-answers : (p v : ℕ) → 10 ≤ p → p < 31 → takes Server v p fails ≡ true
+fails-answers : (p v : ℕ) → N.start-up-answer ≤ p → p < N.closed → takes Server v p fails ≡ true
 fails-answers zero v l h = absurd (omega arith)
-fails-answers (suc p) v l h = below (λ (n : ℕ). takes Server v (suc n) fails) 30 p (all-failed v) (omega arith)
+fails-answers (suc p) v l h = below (λ (n : ℕ). takes Server v (suc n) fails) 29 p (all-failed v) (omega arith)
 
 -- so ErrorResponse is an answer there
-pub answered : (p v : ℕ) → 10 ≤ p → p < 31 → eqb (next p v M.ErrorResponse) refused ≡ false
+pub answered : (p v : ℕ) → N.start-up-answer ≤ p → p < N.closed → eqb (next p v M.ErrorResponse) refused ≡ false
 unfolding fails
 answered p v l h =
     let a = both (canSend M.ErrorResponse (Body.coded 0 [])) _ .0 (fails-answers p v l h) in
@@ -157,43 +157,43 @@ answered p v l h =
 
 pub turn-exact : {acc : List Message} {s : Session} → Follows acc s → HasTurn acc (sideOf (turnOf s))
 unfolding turnOf
-turn-exact {acc} {s} i = by (ltb (s .phase) 10) refl (ltb (s .phase) 31) refl
+turn-exact {acc} {s} i = by (ltb (s .phase) N.start-up-answer) refl (ltb (s .phase) N.closed) refl
   where
-    only-error : s .phase < 10 → (m : Message) → Published Server m → Begins (acc ++ (m ∷ [])) → m .instruction ≡ M.ErrorResponse
+    only-error : s .phase < N.start-up-answer → (m : Message) → Published Server m → Begins (acc ++ (m ∷ [])) → m .instruction ≡ M.ErrorResponse
     only-error h m sent g = on (eqb (m .instruction) M.ErrorResponse) refl
       where
         on : (t : Bool) → eqb (m .instruction) M.ErrorResponse ≡ t → m .instruction ≡ M.ErrorResponse
         on true e = eqb-true (m .instruction) M.ErrorResponse e
         on false e = absurd (refused-not i m (published-sent sent) (server-waits m sent (s .phase) (s .version) (omega arith) e) g)
 
-    by : (t : Bool) → ltb (s .phase) 10 ≡ t → (u : Bool) → ltb (s .phase) 31 ≡ u → HasTurn acc (sideOf (if t (Of Client) (if u (Of Server) Over)))
+    by : (t : Bool) → ltb (s .phase) N.start-up-answer ≡ t → (u : Bool) → ltb (s .phase) N.closed ≡ u → HasTurn acc (sideOf (if t (Of Client) (if u (Of Server) Over)))
     by true e u f =
-        let h : s .phase < 10 = ltb-true (s .phase) 10 e in
-        HasTurn.client (goes-on i Client (ask (s .phase)) (below (λ (p : ℕ). takes Client (s .version) p (ask p)) 10 (s .phase) (all-asked (s .version)) h)) (only-error h)
+        let h : s .phase < N.start-up-answer = ltb-true (s .phase) N.start-up-answer e in
+        HasTurn.client (goes-on i Client (ask (s .phase)) (below (λ (p : ℕ). takes Client (s .version) p (ask p)) N.start-up-answer (s .phase) (all-asked (s .version)) h)) (only-error h)
     by false e true f =
-        let l : 10 ≤ s .phase = ltb-false (s .phase) 10 e in
-        HasTurn.server (goes-on i Server fails (fails-answers (s .phase) (s .version) l (ltb-true (s .phase) 31 f)))
+        let l : N.start-up-answer ≤ s .phase = ltb-false (s .phase) N.start-up-answer e in
+        HasTurn.server (goes-on i Server fails (fails-answers (s .phase) (s .version) l (ltb-true (s .phase) N.closed f)))
         (λ g. refused-not i (g .next) (published-sent (g .published)) (client-waits (g .next) (g .published) (s .phase) (s .version) l) (g .begins))
     by false e false f =
-        let l : 31 ≤ s .phase = ltb-false (s .phase) 31 f in
+        let l : N.closed ≤ s .phase = ltb-false (s .phase) N.closed f in
         HasTurn.over (whole-closed i .0 (last-closed i l))
 
 -- the phases of a side's turn
-pub client-phase : (s : Session) → some Client ≡ sideOf (turnOf s) → s .phase < 10
+pub client-phase : (s : Session) → some Client ≡ sideOf (turnOf s) → s .phase < N.start-up-answer
 unfolding turnOf
-client-phase s e = by (ltb (s .phase) 10) refl (ltb (s .phase) 31) e
+client-phase s e = by (ltb (s .phase) N.start-up-answer) refl (ltb (s .phase) N.closed) e
   where
-    by : (t : Bool) → ltb (s .phase) 10 ≡ t → (u : Bool) → some Client ≡ sideOf (if t (Of Client) (if u (Of Server) Over)) → s .phase < 10
-    by true h u e = ltb-true (s .phase) 10 h
+    by : (t : Bool) → ltb (s .phase) N.start-up-answer ≡ t → (u : Bool) → some Client ≡ sideOf (if t (Of Client) (if u (Of Server) Over)) → s .phase < N.start-up-answer
+    by true h u e = ltb-true (s .phase) N.start-up-answer h
     by false h true e = apart (cc)
     by false h false e = apart (cc)
 
-pub server-phase : (s : Session) → some Server ≡ sideOf (turnOf s) → (10 ≤ s .phase) × (s .phase < 31)
+pub server-phase : (s : Session) → some Server ≡ sideOf (turnOf s) → (N.start-up-answer ≤ s .phase) × (s .phase < N.closed)
 unfolding turnOf
-server-phase s e = by (ltb (s .phase) 10) refl (ltb (s .phase) 31) refl e
+server-phase s e = by (ltb (s .phase) N.start-up-answer) refl (ltb (s .phase) N.closed) refl e
   where
-    by : (t : Bool) → ltb (s .phase) 10 ≡ t → (u : Bool) → ltb (s .phase) 31 ≡ u → some Server ≡ sideOf (if t (Of Client) (if u (Of Server) Over))
-        → (10 ≤ s .phase) × (s .phase < 31)
+    by : (t : Bool) → ltb (s .phase) N.start-up-answer ≡ t → (u : Bool) → ltb (s .phase) N.closed ≡ u → some Server ≡ sideOf (if t (Of Client) (if u (Of Server) Over))
+        → (N.start-up-answer ≤ s .phase) × (s .phase < N.closed)
     by true h u k e = apart (cc)
-    by false h true k e = (ltb-false (s .phase) 10 h, ltb-true (s .phase) 31 k)
+    by false h true k e = (ltb-false (s .phase) N.start-up-answer h, ltb-true (s .phase) N.closed k)
     by false h false k e = apart (cc)

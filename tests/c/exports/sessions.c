@@ -46,8 +46,8 @@ static void check_shortest(void)
     CHECK(kdr_closed(lent.session, KDR_SESSION_BYTES) == 1);
 }
 
-/* Options "from 3.0": the version that SessionParameters names holds from there. */
-static void check_version(uint8_t major, unsigned refusal)
+/* Up to AuthenticationOk, in the version that SessionParameters names. */
+static void start(uint8_t major)
 {
     uint8_t bytes[32];
     uint64_t n = kdr_write_session(bytes, sizeof bytes, 120, major, 0, TEXT("u"), TEXT("d"));
@@ -60,6 +60,12 @@ static void check_version(uint8_t major, unsigned refusal)
     n = kdr_write_text(bytes, sizeof bytes, KDR_AuthenticationParameters, TEXT("p"));
     CHECK(kdr_step(lent.session, 2, KDR_CLIENT, bytes, n, lent.numbers, KDR_FIELDS) == n);
     CHECK(step(KDR_SERVER, KDR_AuthenticationOk) == 0);
+}
+
+/* Options "from 3.0". */
+static void check_version(uint8_t major, unsigned refusal)
+{
+    start(major);
     CHECK(step(KDR_CLIENT, KDR_ResetOptions) == refusal);
     if (refusal == 0) {
         CHECK(step(KDR_SERVER, KDR_ResetOptionsOk) == 0);
@@ -86,6 +92,7 @@ static uint64_t put(uint8_t *bytes, uint32_t instruction)
     case KDR_SetOptions:
         return kdr_write_options(bytes, n, instruction, NULL, 0, NULL, 0, NO_TEXT);
     case KDR_DebugInfo: case KDR_ErrorResponse: case KDR_BeginFailed: case KDR_QueryFailed:
+    case KDR_BulkLoadError: case KDR_BulkLoadFailed:
         return kdr_write_coded(bytes, n, instruction, 1, TEXT("x"));
     default:
         return kdr_write_empty(bytes, n, instruction);
@@ -144,6 +151,12 @@ static const struct {
     {KDR_SERVER, KDR_BulkLoadFileName, KDR_CLIENT},
     {KDR_CLIENT, KDR_BulkLoadEnd, KDR_SERVER},
     {KDR_SERVER, KDR_BulkLoadSucceeded, KDR_CLIENT},
+    /* or until BulkLoadError, which gives the turn away half way through */
+    {KDR_CLIENT, KDR_Execute, KDR_SERVER},
+    {KDR_SERVER, KDR_BulkLoadFromStream, KDR_CLIENT},
+    {KDR_CLIENT, KDR_BulkLoadPortion, KDR_CLIENT},
+    {KDR_CLIENT, KDR_BulkLoadError, KDR_SERVER},
+    {KDR_SERVER, KDR_BulkLoadFailed, KDR_CLIENT},
     /* at the server's turn ErrorResponse ends the exchange */
     {KDR_CLIENT, KDR_Commit, KDR_SERVER},
     {KDR_SERVER, KDR_ErrorResponse, KDR_CLIENT},
@@ -196,10 +209,56 @@ static void check_turns(void)
     }
 }
 
+/* Accepted by the session that is lent, and refused by it with 9. */
+#define TAKEN(side, instruction) CHECK(offer(lent.session, side, instruction) == 0)
+#define NINE(side, instruction) CHECK(offer(lent.session, side, instruction) == KDR_OUT_OF_ORDER)
+
+/* "BulkLoadError may stand after any number of portions instead of BulkLoadEnd", in the first file
+ * and in a further one. Behind it comes BulkLoadFailed, or ErrorResponse, and the transaction goes
+ * on. */
+static void check_lost_file(uint8_t major, bool further, unsigned portions, uint32_t answer)
+{
+    start(major);
+    TAKEN(KDR_CLIENT, KDR_Begin);
+    TAKEN(KDR_SERVER, KDR_BeginOk);
+    TAKEN(KDR_CLIENT, KDR_Execute);
+    TAKEN(KDR_SERVER, KDR_BulkLoadFileName);
+    if (further) {
+        TAKEN(KDR_CLIENT, KDR_BulkLoadEnd);
+        TAKEN(KDR_SERVER, KDR_BulkLoadFileName);
+    }
+    for (unsigned i = 0; i < portions; i++) {
+        TAKEN(KDR_CLIENT, KDR_BulkLoadPortion);
+    }
+    TAKEN(KDR_CLIENT, KDR_BulkLoadError);
+    CHECK(kdr_turn(lent.session, KDR_SESSION_BYTES) == KDR_SERVER);
+    NINE(KDR_CLIENT, KDR_BulkLoadPortion);
+    NINE(KDR_CLIENT, KDR_BulkLoadEnd);
+    NINE(KDR_CLIENT, KDR_BulkLoadError);
+    NINE(KDR_SERVER, KDR_BulkLoadSucceeded);
+    NINE(KDR_SERVER, KDR_BulkLoadFileName);
+    NINE(KDR_SERVER, KDR_BulkLoadFromStream);
+    TAKEN(KDR_SERVER, answer);
+    NINE(KDR_CLIENT, KDR_BulkLoadPortion);
+    TAKEN(KDR_CLIENT, KDR_Commit);
+}
+
+static void check_lost_files(void)
+{
+    for (uint8_t major = 1; major <= 4; major++) {
+        for (unsigned portions = 0; portions <= 2; portions++) {
+            for (unsigned further = 0; further <= (major >= 2); further++) {
+                check_lost_file(major, further, portions, KDR_BulkLoadFailed);
+                check_lost_file(major, further, portions, KDR_ErrorResponse);
+            }
+        }
+    }
+}
+
 /* A first byte that no session has: nobody's turn, though it is not closed, and all is 9. */
 static void check_no_session(void)
 {
-    for (unsigned first = 32; first <= 255; first++) {
+    for (unsigned first = 31; first <= 255; first++) {
         uint8_t session[KDR_SESSION_BYTES] = {(uint8_t)first, 4};
         CHECK(kdr_turn(session, KDR_SESSION_BYTES) == KDR_NOBODY);
         CHECK(kdr_closed(session, KDR_SESSION_BYTES) == 0);
@@ -250,6 +309,7 @@ void check_sessions(void)
     check_version(2, KDR_OUT_OF_ORDER);
     check_version(3, 0);
     check_turns();
+    check_lost_files();
     check_no_session();
     check_step_refusals();
 }

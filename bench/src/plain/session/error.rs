@@ -15,7 +15,7 @@ pub fn after_error(phase: Phase) -> Option<Phase> {
             Some(Inside)
         }
         StartUpSent | ParametersAsked | ParametersSent | PasswordAsked | PasswordSent | Outside
-        | Inside | LongText | ItemOver | ResultOver | FileDue | InFile | CloseSentOutside
+        | Inside | LongText | ItemOver | ResultOver | InFile | CloseSentOutside
         | CloseSentInside => Some(Closed),
     }
 }

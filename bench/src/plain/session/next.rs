@@ -1,6 +1,6 @@
 //! The phase that a message leads to, or none where no conversation goes on with it. The functions
-//! follow the parts of document 01's grammar. A message's side has been judged by the reader, and
-//! no phase takes messages of both, ErrorResponse aside.
+//! follow the parts of document 01's grammar, as 02 amends it. A message's side has been judged by
+//! the reader, and no phase takes messages of both, ErrorResponse aside.
 
 use super::error::after_error;
 use super::phase::Phase::{self, *};
@@ -33,7 +33,7 @@ pub fn next(phase: Phase, version: u8, instruction: u32) -> Option<Phase> {
         ItemDue | InItem | PastResult => delivery(phase, version, instruction),
         ItemOver => item_over(instruction),
         ResultOver => result_over(version, instruction),
-        FileDue | InFile => file(phase, instruction),
+        InFile => file(instruction),
         FileSent | FileFailed => file_answer(phase, version, instruction),
         CloseSentOutside | CloseSentInside => close_answer(phase, instruction),
         Closed => None,
@@ -120,7 +120,7 @@ fn outcome(version: u8, instruction: u32) -> Option<Phase> {
     match instruction {
         QUERY_SUCCEEDED => Some(ItemDue),
         QUERY_FAILED => Some(Inside),
-        BULK_LOAD_FILE_NAME | BULK_LOAD_FROM_STREAM => Some(FileDue),
+        BULK_LOAD_FILE_NAME | BULK_LOAD_FROM_STREAM => Some(InFile),
         DEBUG_INFO if version < DEBUG_AND_FILES => None,
         _ => update(instruction),
     }
@@ -161,11 +161,11 @@ fn result_over(version: u8, instruction: u32) -> Option<Phase> {
     }
 }
 
-fn file(phase: Phase, instruction: u32) -> Option<Phase> {
-    match (phase, instruction) {
-        (_, BULK_LOAD_PORTION) => Some(InFile),
-        (_, BULK_LOAD_END) => Some(FileSent),
-        (FileDue, BULK_LOAD_ERROR) => Some(FileFailed),
+fn file(instruction: u32) -> Option<Phase> {
+    match instruction {
+        BULK_LOAD_PORTION => Some(InFile),
+        BULK_LOAD_END => Some(FileSent),
+        BULK_LOAD_ERROR => Some(FileFailed),
         _ => None,
     }
 }
@@ -174,7 +174,7 @@ fn file_answer(phase: Phase, version: u8, instruction: u32) -> Option<Phase> {
     match (phase, instruction) {
         (_, BULK_LOAD_FAILED) => Some(Inside),
         (FileSent, BULK_LOAD_SUCCEEDED) => Some(Inside),
-        (FileSent, BULK_LOAD_FILE_NAME) if version >= DEBUG_AND_FILES => Some(FileDue),
+        (FileSent, BULK_LOAD_FILE_NAME) if version >= DEBUG_AND_FILES => Some(InFile),
         _ => None,
     }
 }

@@ -34,8 +34,7 @@ pub enum Phase {
     ResultOver,
     /// After a GetNextItem that comes behind the last item.
     PastResult,
-    /// After a file's name: the only place for a BulkLoadError.
-    FileDue,
+    /// After a file's name, however many portions have come.
     InFile,
     FileSent,
     FileFailed,

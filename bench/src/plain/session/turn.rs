@@ -8,7 +8,7 @@ use crate::plain::Side::{self, Client, Server};
 pub fn turn(phase: Phase) -> Option<Side> {
     match phase {
         Fresh | ParametersAsked | PasswordAsked | Outside | Inside | LongText | ItemOver
-        | ResultOver | FileDue | InFile => Some(Client),
+        | ResultOver | InFile => Some(Client),
         StartUpSent | ParametersSent | PasswordSent | TimeAskedOutside | SettingOutside
         | ResettingOutside | BeginSent | TimeAskedInside | SettingInside | ResettingInside
         | CommitSent | RollbackSent | StatementSent | Updating | ItemDue | InItem | PastResult

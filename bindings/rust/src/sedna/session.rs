@@ -23,6 +23,9 @@ impl Session {
     /// Refused with 1 to 8 as reading is, and with 9 where no conversation goes on with the
     /// message; the session is then where it was. Do not offer such a message again: behind a later
     /// request it may be taken as the answer to that.
+    ///
+    /// In a file BulkLoadError is taken after any number of portions (up to 0.2.0 only in place of
+    /// all of them); behind it only BulkLoadFailed or ErrorResponse is.
     pub fn step<'a>(
         &mut self,
         side: Side,

@@ -124,20 +124,19 @@ fn after_result_end() {
 fn bulk_load() {
     for version in 1..=4 {
         for name in [BULK_LOAD_FILE_NAME, BULK_LOAD_FROM_STREAM] {
-            let due = after(inside(version), &[EXECUTE, name]);
-            assert_eq!(open(due), [100, 400, 410, 420]);
-            let in_file = after(due, &[BULK_LOAD_PORTION]);
-            assert_eq!(open(in_file), [100, 410, 420]);
-            assert_eq!(after(in_file, &[BULK_LOAD_PORTION]), in_file);
-            let sent = after(due, &[BULK_LOAD_END]);
-            assert_eq!(after(in_file, &[BULK_LOAD_END]), sent);
-            let more = if version >= 2 { &[430][..] } else { &[] };
-            assert_eq!(open(sent), [&[100], more, &[440, 450]].concat());
-            assert!(more.is_empty() || after(sent, more) == due);
-            let failed = after(due, &[BULK_LOAD_ERROR]);
-            assert_eq!(open(failed), [100, 450]);
-            for end in [after(sent, &[440]), after(sent, &[450]), after(failed, &[450])] {
-                assert!(is_inside(end));
+            let first = after(inside(version), &[EXECUTE, name]);
+            for portions in 0..=2 {
+                let in_file = after(first, &[BULK_LOAD_PORTION; 2][..portions]);
+                assert_eq!(open(in_file), [100, 400, 410, 420]);
+                let sent = after(in_file, &[BULK_LOAD_END]);
+                let more = if version >= 2 { &[430][..] } else { &[] };
+                assert_eq!(open(sent), [&[100], more, &[440, 450]].concat());
+                assert!(more.is_empty() || after(sent, more) == first);
+                let failed = after(in_file, &[BULK_LOAD_ERROR]);
+                assert_eq!(open(failed), [100, 450]);
+                for end in [after(sent, &[440]), after(sent, &[450]), after(failed, &[450])] {
+                    assert!(is_inside(end));
+                }
             }
         }
     }

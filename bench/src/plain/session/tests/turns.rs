@@ -11,7 +11,7 @@ fn only_the_side_that_has_the_turn_goes_on() {
     let more = [GET_NEXT_ITEM, RESULT_END, GET_NEXT_ITEM, DEBUG_INFO, RESULT_END];
     let long = [EXECUTE_LONG, EXECUTE_LONG, LONG_QUERY_END, DEBUG_INFO, UPDATE_SUCCEEDED];
     let load = [EXECUTE, BULK_LOAD_FILE_NAME, BULK_LOAD_PORTION, BULK_LOAD_END];
-    let failed = [EXECUTE, BULK_LOAD_FROM_STREAM, BULK_LOAD_ERROR, BULK_LOAD_FAILED];
+    let failed = [EXECUTE, BULK_LOAD_FROM_STREAM, BULK_LOAD_PORTION, BULK_LOAD_ERROR, 450];
     let sides = [SHOW_TIME, LAST_QUERY_TIME, SET_OPTIONS, SET_OPTIONS_OK, RESET_OPTIONS];
     let mut phases = BTreeSet::new();
     for (from, list) in [
