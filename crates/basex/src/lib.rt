@@ -10,7 +10,7 @@ use basex_string::{Ends, StringAt};
 use wire::Refusal;
 
 // What the response to a request is made of, named by the first request that has it.
-#[derive(Drop)]
+#[derive(Clone, Copy)]
 pub enum Reply {
     Command,
     Create,
@@ -20,7 +20,7 @@ pub enum Reply {
 }
 
 // First byte, number of strings, response. All of them small: the table is laid out at each use.
-#[derive(Drop)]
+#[derive(Clone, Copy)]
 pub struct Kind(pub u8, pub u8, pub Reply);
 
 // Document 01's list, COMMAND last, at the first of its first bytes.
@@ -49,7 +49,7 @@ fn table() -> [Kind; 15]
 }
 
 // What the table says of a request's first byte.
-#[derive(Drop)]
+#[derive(Clone, Copy)]
 pub enum Found {
     Known(usize, Reply),
     Unknown,
@@ -90,7 +90,7 @@ pub fn find(first: u8) -> Found
 
 // Whether the request is a COMMAND, how many strings stand ahead of the status, whether an error string
 // stands behind status 01, whether there are items, whether they have URI strings.
-#[derive(Drop)]
+#[derive(Clone, Copy)]
 pub struct Columns(pub bool, pub usize, pub bool, pub bool, pub bool);
 
 fn columns_of(reply: Reply) -> Columns
@@ -177,7 +177,7 @@ pub fn item_strings(full: bool, id: u8) -> usize
 }
 
 // The lengths of up to two strings that stand one behind the other, and where the next field starts.
-#[derive(Drop)]
+#[derive(Clone, Copy)]
 pub enum TwoAt {
     At {
         first: usize,

@@ -9,7 +9,7 @@ use wire::{Place, Refusal};
 
 // Where the error stands in the output that the response was read into; none where the request did
 // not fail.
-#[derive(Drop)]
+#[derive(Clone, Copy)]
 pub enum ErrorIn {
     At(Place),
     None,

@@ -32,7 +32,7 @@ fn damaged() -> bool {
 }
 
 // What stands where a record may start: a whole head, the input's end, or what cannot be read.
-#[derive(Drop)]
+#[derive(Clone, Copy)]
 enum Start {
     Head,
     End,

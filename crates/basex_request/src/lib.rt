@@ -16,7 +16,7 @@ use wire::{Counted, Refusal};
 
 // The kind (its first byte, 20 for COMMAND), how long each text is, and how many bytes were read; or
 // why none was. The texts stand one behind the other in the output.
-#[derive(Drop)]
+#[derive(Clone, Copy)]
 pub enum Requested {
     Read {
         kind: u8,
@@ -31,7 +31,7 @@ pub enum Requested {
 
 // A request that reads well: its kind, where its n strings start, how long each text is, and how
 // many bytes it has.
-#[derive(Drop)]
+#[derive(Clone, Copy)]
 enum RequestAt {
     At {
         kind: u8,

@@ -50,7 +50,7 @@ pub fn item_at(full: bool, bytes: &[u8], at: usize) -> ItemAt
 }
 
 // How many items a list has, how many bytes their texts have, and where the next field starts.
-#[derive(Drop)]
+#[derive(Clone, Copy)]
 pub enum ItemsAt {
     At {
         count: usize,

@@ -12,7 +12,7 @@ mod write;
 
 // What stands in a list of items: an item with its id and how many bytes its URI (0 where it has
 // none) and its text have, or the 00 behind the last; and where what follows starts.
-#[derive(Drop)]
+#[derive(Clone, Copy)]
 pub enum ItemAt {
     Item {
         id: u8,
@@ -29,7 +29,7 @@ pub enum ItemAt {
 // A response that was read: how many bytes each string ahead of the status has, how many items there
 // are and how many bytes their texts have together, the status, how many bytes the error behind it
 // has, and how many bytes were read. 0 stands for what the response does not have.
-#[derive(Drop)]
+#[derive(Clone, Copy)]
 pub enum Replied {
     Read {
         first: usize,

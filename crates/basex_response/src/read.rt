@@ -29,7 +29,7 @@ fn list_at(reply: Reply, bytes: &[u8], at: usize) -> ItemsAt
 }
 
 // The status, how long the error behind it is, and where the bytes behind the response start.
-#[derive(Drop)]
+#[derive(Clone, Copy)]
 enum EndAt {
     At {
         status: u8,

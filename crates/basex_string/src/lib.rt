@@ -17,14 +17,14 @@ mod count;
 mod put;
 
 // How many bytes a string has, decoded, and where the next field starts.
-#[derive(Drop)]
+#[derive(Clone, Copy)]
 pub enum StringAt {
     At { len: usize, next: usize },
     Refused(Refusal),
 }
 
 // Where the next field starts, and where the output is free again.
-#[derive(Drop)]
+#[derive(Clone, Copy)]
 pub struct Ends {
     pub next: usize,
     pub to: usize,
@@ -240,7 +240,7 @@ fn opens(b: u8, escaped: bool) -> bool
 }
 
 // How many bytes of the text were stored, and where the next ones stand.
-#[derive(Drop)]
+#[derive(Clone, Copy)]
 struct FewStored {
     count: usize,
     next: usize,

@@ -10,7 +10,7 @@ use text_lines::print::say;
 use wire::{Counted, first};
 
 // What is cut; a URL by its length.
-#[derive(Drop)]
+#[derive(Clone, Copy)]
 enum Cut {
     Statement { format: u8 },
     Item,

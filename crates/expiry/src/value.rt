@@ -5,7 +5,7 @@ use text_lines::print::say;
 use text_values::say_value;
 
 // The instant that was read last, if any; or that the input has ended.
-#[derive(Drop)]
+#[derive(Clone, Copy)]
 pub enum Last {
     Nothing,
     Instant(Instant),

@@ -15,7 +15,7 @@ use sedna_read::Reading;
 use wire::Refusal;
 
 // The assembly that seven numbers mean, or none.
-#[derive(Drop)]
+#[derive(Clone, Copy)]
 pub enum Meant {
     Is(Assembly),
     Nothing,

@@ -10,7 +10,7 @@ use parts_join::{Answer, Assembly, Joined};
 use sedna_read::Places;
 
 // What joining a message returns, and what it hands over: the front part of the buffer, with no copy.
-#[derive(Drop)]
+#[derive(Clone, Copy)]
 pub struct Handing<'a> {
     pub joined: Joined,
     pub part: &'a [u8],

@@ -20,7 +20,7 @@ mod body;
 mod roles;
 
 // What is being joined: a statement, an item up to 3.0, or an item of 4.0.
-#[derive(Drop)]
+#[derive(Clone, Copy)]
 pub enum Open {
     Nothing,
     Statement,
@@ -30,7 +30,7 @@ pub enum Open {
 
 // What the first part says of the whole: a statement's format, or a typed item's class and type; 0
 // where it says nothing.
-#[derive(Drop)]
+#[derive(Clone, Copy)]
 pub struct Label {
     pub format: u8,
     pub class: u8,
@@ -39,7 +39,7 @@ pub struct Label {
 
 // What is open, whether a part was taken, how many bytes the buffer holds, whether a part found no
 // room, and what the first part said.
-#[derive(Drop)]
+#[derive(Clone, Copy)]
 pub struct Assembly {
     pub what: Open,
     pub begun: bool,
@@ -50,7 +50,7 @@ pub struct Assembly {
 
 // What a message is to an assembly: of another kind; the only part, which also ends it; a part
 // wherever it stands; a part that must come first; a part that must not; the end.
-#[derive(Drop)]
+#[derive(Clone, Copy)]
 pub enum Role {
     Other,
     Sole,
@@ -61,7 +61,7 @@ pub enum Role {
 }
 
 // A part was taken; or all is there, and stands in the first `len` bytes of the buffer.
-#[derive(Drop)]
+#[derive(Clone, Copy)]
 pub enum Answer {
     Part,
     Statement { format: u8, len: usize },
@@ -71,7 +71,7 @@ pub enum Answer {
 }
 
 // What joining a message returns: the record after it, and the answer.
-#[derive(Drop)]
+#[derive(Clone, Copy)]
 pub struct Joined {
     pub assembly: Assembly,
     pub answer: Answer,

@@ -8,14 +8,14 @@ mod heads;
 pub use heads::{judge_head, record_at};
 
 // The six bytes ahead of a payload, judged: who sent it and how long it is.
-#[derive(Drop)]
+#[derive(Clone, Copy)]
 pub enum Head {
     Record { side: Side, len: usize },
     Damaged,
 }
 
 // What stands at a place of a transcript.
-#[derive(Drop)]
+#[derive(Clone, Copy)]
 pub enum Next {
     Record { side: Side, payload: Place },
     Damaged,

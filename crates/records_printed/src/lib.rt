@@ -15,7 +15,7 @@ pub use next_line::put_next_line;
 pub use whole::replay;
 
 // What a record is answered, 0 or the refusal's number, and the session after it.
-#[derive(Drop)]
+#[derive(Clone, Copy)]
 pub struct Answered {
     pub number: u8,
     pub session: Session,
@@ -26,7 +26,7 @@ pub const LONGEST_LINE: usize = 38;
 
 // How many bytes of a line were put into lent output: a record's, with the session to go on with;
 // or the last one. Or there was no room for it, and then nothing was stepped.
-#[derive(Drop)]
+#[derive(Clone, Copy)]
 pub enum CountedLine {
     Record { count: usize, session: Session },
     Last(usize),
@@ -34,7 +34,7 @@ pub enum CountedLine {
 }
 
 // How many characters the three fields of a line have that differ in length.
-#[derive(Drop)]
+#[derive(Clone, Copy)]
 struct Widths {
     number: usize,
     instruction: usize,

@@ -5,7 +5,7 @@ ghost use Rattle.sedna_c.specs.Codes.{sender_of};
 use sedna::Side;
 
 // Who sent a message: side 1 is the client, 2 the server.
-#[derive(Drop)]
+#[derive(Clone, Copy)]
 pub enum Sender {
     Is(Side),
     Nobody,

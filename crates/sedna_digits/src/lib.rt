@@ -49,7 +49,7 @@ fn grow(n: u64, digit: u64) -> u64
 }
 
 // Where a run of digits ends, and the number that they are, as far as it is kept.
-#[derive(Drop)]
+#[derive(Clone, Copy)]
 pub struct Run {
     pub end: usize,
     pub number: u64,

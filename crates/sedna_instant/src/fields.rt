@@ -6,7 +6,7 @@ ghost use Rattle.sedna_instant.specs.inner.Bounds.{GivesWithin, FractionFits, Sh
 use sedna_digits::{byte_at, digits, two_digits};
 
 // A year as it is written: a minus sign or none, and four digits, or more of which the first is not 0.
-#[derive(Drop)]
+#[derive(Clone, Copy)]
 pub struct Year {
     pub minus: bool,
     pub formed: bool,
@@ -43,7 +43,7 @@ pub fn year_of(s: &[u8]) -> Year
 }
 
 // The numbers behind the year, 100 where one has not two digits.
-#[derive(Drop)]
+#[derive(Clone, Copy)]
 pub struct Clock {
     pub month: u64,
     pub day: u64,
@@ -86,7 +86,7 @@ pub fn clock_at(s: &[u8], at: usize) -> Clock
 }
 
 // A point and digits, or nothing at all.
-#[derive(Drop)]
+#[derive(Clone, Copy)]
 pub struct Fraction {
     pub formed: bool,
     pub count: usize,
@@ -118,7 +118,7 @@ pub fn fraction_at(s: &[u8], at: usize) -> Fraction
 }
 
 // What a zone adds to local time, in seconds on top of a day, so that it is never negative.
-#[derive(Drop)]
+#[derive(Clone, Copy)]
 pub enum ZoneFound {
     Malformed,
     Missing,

@@ -11,20 +11,20 @@ mod fields;
 pub mod read;
 
 // Seconds from 1970-01-01T00:00:00Z, and nanoseconds on top, before 1970 too.
-#[derive(Drop)]
+#[derive(Clone, Copy)]
 pub struct Instant {
     pub seconds: i64,
     pub nanos: u32,
 }
 
 // An instant, or the refusal.
-#[derive(Drop)]
+#[derive(Clone, Copy)]
 pub enum Dated {
     At(Instant),
     Refused(Refusal),
 }
 
-#[derive(Drop)]
+#[derive(Clone, Copy)]
 pub enum Order {
     Earlier,
     Same,

@@ -9,7 +9,7 @@ use wire::Refusal;
 
 // Digits with a point among or beside them, or with none: how many stand before it and behind it, the number of each,
 // and where they end.
-#[derive(Drop)]
+#[derive(Clone, Copy)]
 pub struct Decimal {
     pub before: usize,
     pub behind: usize,

@@ -11,7 +11,7 @@ mod booleans;
 mod doubles;
 mod wholes;
 
-#[derive(Drop)]
+#[derive(Clone, Copy)]
 pub enum Value {
     Whole(i64),
     At(Instant),
@@ -19,7 +19,7 @@ pub enum Value {
     Double(f64),
 }
 
-#[derive(Drop)]
+#[derive(Clone, Copy)]
 pub enum Valued {
     Is(Value),
     Refused(Refusal),

@@ -38,7 +38,7 @@ fn greatest(kind: u8) -> i64
 }
 
 // A number of 64 bits with a sign, or one beyond them.
-#[derive(Drop)]
+#[derive(Clone, Copy)]
 pub enum Signed {
     Is(i64),
     Overflow,

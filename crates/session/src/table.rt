@@ -4,7 +4,7 @@
 use crate::phase;
 
 // An instruction's entries: four for each of the 31 phases, one to a version.
-#[derive(Drop)]
+#[derive(Clone, Copy)]
 pub struct Column(pub [u8; 124]);
 
 pub const NEXT: [Column; 46] = [

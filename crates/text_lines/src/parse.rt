@@ -8,20 +8,20 @@ use crate::cut::{behind, front};
 // What a field or a message takes at most: a body of 10,240 bytes, its head and something to spare.
 pub const SPACE: usize = 12000;
 
-#[derive(Drop)]
+#[derive(Clone, Copy)]
 pub enum Number {
     Is(u32),
     Not,
 }
 
-#[derive(Drop)]
+#[derive(Clone, Copy)]
 pub enum Byte {
     Is(u8),
     Not,
 }
 
 // How many bytes of the lent output are spelt.
-#[derive(Drop)]
+#[derive(Clone, Copy)]
 pub enum Spelt {
     Bytes(usize),
     Not,

@@ -12,14 +12,14 @@ use session::Session;
 use wire::{Counted, Place};
 
 // How many bytes were read, 0 at the input's end; or the first read failed.
-#[derive(Drop)]
+#[derive(Clone, Copy)]
 enum Input {
     Bytes(usize),
     Failed,
 }
 
 // Behind a line: the session to go on with; or it was the last one; or it could not be written.
-#[derive(Drop)]
+#[derive(Clone, Copy)]
 enum Progress {
     On(Session),
     Ended,

@@ -16,7 +16,7 @@ fn flag(b: bool) -> i64
 }
 
 // A value in numbers: what it is, two whole numbers and a double. Those that it does not use are 0.
-#[derive(Drop)]
+#[derive(Clone, Copy)]
 struct ValueNumbers {
     what: u64,
     first: i64,

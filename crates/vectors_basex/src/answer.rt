@@ -8,7 +8,7 @@ use text_lines::print::{hex, say};
 use wire::{Counted, Place, first, part};
 
 // Where four texts that one line spells end, one behind the other.
-#[derive(Drop)]
+#[derive(Clone, Copy)]
 struct Four {
     first: usize,
     second: usize,
@@ -16,7 +16,7 @@ struct Four {
     fourth: usize,
 }
 
-#[derive(Drop)]
+#[derive(Clone, Copy)]
 enum Texts {
     Are(Four),
     Not,

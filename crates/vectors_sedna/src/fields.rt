@@ -5,7 +5,7 @@ use text_lines::parse::{Number, SPACE, Spelt, bytes, decimal};
 use wire::Place;
 
 // The writing lines, by their first words.
-#[derive(Drop)]
+#[derive(Clone, Copy)]
 pub enum Kind {
     Empty,
     Text,
@@ -18,7 +18,7 @@ pub enum Kind {
     None,
 }
 
-#[derive(Drop)]
+#[derive(Clone, Copy)]
 pub enum Fields {
     Are(Places),
     Not,
