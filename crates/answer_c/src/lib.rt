@@ -1,5 +1,7 @@
 // The numbers by which exported calls answer programs in C and Rust: below 2^63 a count, above it a
 // refusal, its number on top of 2^63. No slice is so long, so the two are told apart.
+#![tactic(auto)]
+
 ghost use Rattle.std.specs.Prelude.{◌≡◌};
 ghost use Rattle.answer_c.specs.Codes.{refusal_code, counted_code};
 

@@ -1,5 +1,7 @@
 // The published BaseX kinds: the one table of requests, what the response to each is made of, and
 // strings that stand one behind the other.
+#![tactic(auto)]
+
 ghost use Rattle.std.specs.Prelude.{◌≡◌, ◌-◌, min, length, drop};
 ghost use Rattle.wire.specs.Call.{Gives};
 ghost use Rattle.basex.specs.Kinds.{kinds, find_of, row_byte, starts_command, columns_of, is_command, ahead, error_behind, behind};

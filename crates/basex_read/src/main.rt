@@ -7,6 +7,8 @@
 //     NUMBER FF 0 READ KIND FIELD ..          a request
 // in hexadecimal but for numbers, refusals, counts and ids; an empty text is `-`. The last line is
 // `end`, or `damaged` at a cut record, one above 65,536 bytes or a read that fails, where it stops.
+#![tactic(auto)]
+
 ghost use Rattle.std.specs.Prelude.{◌<◌};
 
 use libc::STDIN_FILENO;

@@ -1,5 +1,7 @@
 // Reads and writes BaseX requests. All of a request or nothing: on a refusal the output stays as it
 // was.
+#![tactic(auto)]
+
 ghost use Rattle.std.specs.Prelude.{◌≡◌, ◌-◌, ◌≤◌, length, drop};
 ghost use Rattle.wire.specs.Call.{Gives, Writes};
 ghost use Rattle.basex_string.specs.Answers.{output_read};

@@ -1,4 +1,6 @@
 // BaseX responses: read knowing the request, their items handed out, and written.
+#![tactic(auto)]
+
 pub use errors::error_at;
 pub use items::item_at;
 pub use read::read_response;

@@ -1,6 +1,8 @@
 // BaseX strings: written into lent output, judged where they stand, and decoded into lent output.
 // Writing and decoding put all of a string or nothing: on a refusal the output stays as it was.
 // `store_judged_text` alone refuses nothing: it is an inner tool for readers that judged first.
+#![tactic(auto)]
+
 ghost use Rattle.std.specs.Prelude.{not, false, ◌≡◌, [], ◌∷◌, ◌++◌, ◌+◌, ◌*◌, ◌≤◌, ◌<◌, min, eqb, leb, length, drop, get_or};
 ghost use Rattle.wire.specs.Bytes.{if, splice};
 ghost use Rattle.wire.specs.Call.{in_room, Gives, Writes};

@@ -7,6 +7,8 @@
 // over a lent record; ` ?forms` stands behind one where they differ. An empty line and one that starts
 // with # are printed as they are, any other line with `?`. Behind 4,096 bytes a line counts as a new
 // one.
+#![tactic(auto)]
+
 mod forms;
 mod message;
 mod replay;

@@ -14,6 +14,8 @@
 // for whether the part of the buffer that is handed over is the text. Lengths and rooms go up to
 // 32,768; ? stands behind what is not understood. An empty line and one that starts with # are printed
 // as they are.
+#![tactic(auto)]
+
 mod cut;
 mod hand;
 mod join;

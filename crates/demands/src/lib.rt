@@ -1,1 +1,2 @@
 // No code: what is promised, a file each in specs/, Main.antt first, and the proofs of it.
+#![tactic(auto)]

@@ -7,6 +7,8 @@
 // nanoseconds, with how it lies to the last one that was printed, and a double by the sixteen digits of its bits. ? stands
 // behind a line of another form. An empty line and one that starts with # are printed as they are. Behind 4,096 bytes a
 // line counts as a new one.
+#![tactic(auto)]
+
 mod item;
 mod value;
 

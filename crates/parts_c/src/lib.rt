@@ -1,6 +1,8 @@
 // Cutting and joining for programs in C and Rust: numbers and slices in, numbers out. Cutting,
 // here: how many messages a statement or an item is cut into, and the k-th of them, from 0,
 // written into lent output.
+#![tactic(auto)]
+
 ghost use Rattle.std.specs.Prelude.{◌≡◌};
 ghost use Rattle.parts_cut.specs.Part.{statement_parts, item_count, typed_item_count, url_parts, statement_part, item_part, typed_item_part, typed_item_url_part};
 ghost use Rattle.answer_c.specs.Codes.{counted_code};

@@ -1,5 +1,7 @@
 // Cuts statements and items into messages: how many there are, and the k-th written into lent
 // output. What is written is a part of the lent text; nothing is gathered on the way.
+#![tactic(auto)]
+
 ghost use Rattle.std.specs.Prelude.{◌≡◌, ◌<◌, ◌*◌, length, take, drop};
 ghost use Rattle.std.proofs.Math.ListN.{get_elem?};
 ghost use Rattle.wire.specs.Call.{Writes};

@@ -1,6 +1,8 @@
 // Joins the parts of a statement or an item: a record by value beside the caller's buffer. An
 // assembly is 01's gathering: the record says what is open and how many bytes the buffer holds.
 // 01's word for an assembly that overflowed is spoilt.
+#![tactic(auto)]
+
 ghost use Rattle.std.specs.Prelude.{◌≡◌, List, ℕ, ◌+◌, ◌<◌, ◌^◌, length};
 ghost use Rattle.wire.specs.Bytes.{if};
 ghost use Rattle.sedna.specs.Message.{message};

@@ -1,5 +1,7 @@
 // What a record of a transcript is, over slices: document 01, "The transcript program". What is
 // printed for one is the crate `records_printed`.
+#![tactic(auto)]
+
 use sedna::Side;
 use wire::Place;
 

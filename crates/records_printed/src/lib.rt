@@ -1,5 +1,7 @@
 // The lines that document 01's transcript program prints for the records of a transcript, over
 // slices. A program only reads and prints.
+#![tactic(auto)]
+
 use session::Session;
 use wire::Refusal;
 

@@ -1,5 +1,7 @@
 // Reading, writing and the session for programs in C and Rust: numbers and slices in, numbers
 // out. An answer above 2^63 is a refusal, its number on top of 2^63.
+#![tactic(auto)]
+
 ghost use Rattle.std.specs.Prelude.{◌++◌, ◌≡◌, ◌≤◌, length, take, drop};
 ghost use Rattle.sedna.specs.Message.{Url, Body, message};
 ghost use Rattle.sedna_read.specs.Places.{option_at};

@@ -1,5 +1,7 @@
 // Runs of digits, of which the texts of numbers and instants are made, and powers of ten. A run is walked once, front
 // to back.
+#![tactic(auto)]
+
 ghost use Rattle.std.specs.Prelude.{◌≡◌, ◌-◌, ◌≤◌, ◌^◌, min, get_or};
 ghost use Rattle.sedna_digits.specs.Digits.{is_digit, digits_at, two_digits_at, behind_sign};
 ghost use Rattle.sedna_digits.specs.inner.Growing.{grown};

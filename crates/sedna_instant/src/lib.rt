@@ -1,6 +1,8 @@
 // Instants: a dateTime read as a point in time (document 02, request 1), and which of two is earlier.
 //
 // No function that another crate can call has a `requires`: what is no instant is refused, with 15 or 16.
+#![tactic(auto)]
+
 ghost use Rattle.std.specs.Prelude.{◌≡◌};
 ghost use Rattle.sedna_instant.specs.Orders.{ordered};
 

@@ -1,6 +1,8 @@
 // Typed values, document 02, request 1: what the text of a 4.0 item of class 1 means by its type.
 //
 // No function here that is public has a `requires`: what has no value is refused, with 15 or 16.
+#![tactic(auto)]
+
 ghost use Rattle.std.specs.Prelude.{◌≡◌};
 ghost use Rattle.sedna_value.specs.Values.{from_dated, value_of};
 

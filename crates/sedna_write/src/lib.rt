@@ -1,5 +1,7 @@
 // Writes Sedna messages into lent output: all of a message or nothing. One function for each body
 // shape; on a refusal, and behind the bytes written, the output stays as it was.
+#![tactic(auto)]
+
 ghost use Rattle.std.specs.Prelude.{◌≡◌, ◌+◌, ◌≤◌, min, length};
 ghost use Rattle.wire.specs.Call.{put_at};
 ghost use Rattle.sedna.specs.Encode.{string, pair_bytes, pairs_bytes};

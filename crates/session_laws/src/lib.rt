@@ -1,1 +1,2 @@
 // Laws, no code: the session's machine follows the grammar.
+#![tactic(auto)]

@@ -1,4 +1,6 @@
 // The step over a session record that is lent, where the gateway keeps it.
+#![tactic(auto)]
+
 ghost use Rattle.std.specs.Prelude.{◌≡◌};
 ghost use Rattle.session.specs.Step.{stepped};
 ghost use Rattle.session_lent.specs.Lent.{StepsLent};

@@ -2,6 +2,8 @@
 //     phase,instruction,1.0,2.0,3.0,4.0
 // Then comes a line for each phase, the fresh one first, and each instruction, in document 01's order: both
 // names, and under each version the next phase, or - where the move is refused.
+#![tactic(auto)]
+
 ghost use Rattle.std.specs.Prelude.{◌<◌};
 
 mod names;

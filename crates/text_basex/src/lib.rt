@@ -1,6 +1,8 @@
 // Prints what reading a BaseX request or response answers, on the rest of a line: 0 or the refusal,
 // and behind a 0 the bytes read and every decoded field in hexadecimal. No part of the library: what
 // programs share.
+#![tactic(auto)]
+
 pub mod request;
 pub mod response;
 pub mod text;

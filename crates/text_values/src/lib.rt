@@ -1,4 +1,6 @@
 // Prints typed values. No part of the library: what programs share.
+#![tactic(auto)]
+
 use sedna_instant::Instant;
 use sedna_value::{Value, Valued};
 use text_lines::print::{decimal, hex_u64, say, signed};

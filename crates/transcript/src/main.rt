@@ -1,6 +1,8 @@
 // Document 01's transcript program: reads records from standard input, one at a time, and prints a
 // line for each, then how the input ended. What is printed is the library's to say; here it is only
 // read and printed.
+#![tactic(auto)]
+
 ghost use Rattle.std.specs.Prelude.{◌≤◌, length};
 ghost use Rattle.records.specs.Record.{front};
 ghost use Rattle.transcript.specs.inner.Program.{Within, OfRecord, GoesOn};

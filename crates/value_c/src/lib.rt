@@ -1,5 +1,7 @@
 // Typed values for programs in C and Rust (document 02, request 1): what the text of an item of 4.0
 // means by its type, told in two numbers and a double, and which of two instants is earlier.
+#![tactic(auto)]
+
 ghost use Rattle.std.specs.Prelude.{◌≡◌, ◌≤◌, length};
 ghost use Rattle.value_c.specs.Values.{flag_of, in_numbers, numbers_of, value_told, lent_outcome, outcome, ComesTo};
 ghost use Rattle.value_c.specs.Orders.{order_number, compared};

@@ -3,6 +3,8 @@
 // TEXT is pairs of hexadecimal digits, or - for none; 30*100 is 100 bytes 30. ANSWER is `whole N`, `instant SECONDS
 // NANOS`, `yes`, `no`, `double` and the sixteen digits of its bits, or `refused N`; ? for a line that is not of this
 // form. An empty line and one that starts with # are printed as they are. Behind 4,096 bytes a line counts as a new one.
+#![tactic(auto)]
+
 use text_lines::cut::{behind, front, same};
 use text_lines::input::asks;
 use text_lines::parse::{Byte, SPACE, Spelt};

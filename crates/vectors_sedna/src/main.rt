@@ -10,6 +10,8 @@
 //     options ROOM I ID HEX / ID HEX / ..
 // HEX is pairs of digits with spaces between, or nothing; 41*10235 is 10,235 bytes 41. ROOM and the
 // bytes of a line are 12,000 at most. An empty line and one that starts with # are printed as they are.
+#![tactic(auto)]
+
 mod ask;
 mod fields;
 mod written;
