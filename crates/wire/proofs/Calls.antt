@@ -12,12 +12,12 @@ module _ {Record Call Answer Kept : Type 0} (does : Record → Call → Done Rec
   pub all-right_for : (Is : Call → Type 0) → GoesFor Is → (k : Kept) (s : Record) (calls : List Call) → Every Is calls → Holds k s
       → AllRight does keep Right k s calls
   all-right_for Is goes k s [] are h = tt
-  all-right_for Is goes k s (c ∷ calls) are h = ((goes k s c are.0 h).0, all-right_for Is goes _ _ calls are.1 (goes k s c are.0 h).1)
+  all-right_for Is goes k s (c ∷ calls) are h = ((goes k s c are.0 h).0, all-right_for Is goes (keep k c (does s c).answer) (does s c).record_after calls are.1 (goes k s c are.0 h).1)
 
   pub holds_after_for : (Is : Call → Type 0) → GoesFor Is → (k : Kept) (s : Record) (calls : List Call) → Every Is calls → Holds k s
       → Holds (kept_after_all does keep k s calls) (record_after_all does s calls)
   holds_after_for Is goes k s [] are h = h
-  holds_after_for Is goes k s (c ∷ calls) are h = holds_after_for Is goes _ _ calls are.1 (goes k s c are.0 h).1
+  holds_after_for Is goes k s (c ∷ calls) are h = holds_after_for Is goes (keep k c (does s c).answer) (does s c).record_after calls are.1 (goes k s c are.0 h).1
 
   -- the same where every call is of that kind
   abbrev pub Goes : Type 0

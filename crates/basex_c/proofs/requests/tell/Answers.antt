@@ -1,0 +1,34 @@
+use mathlib.Core.List.{[], ◌∷◌}
+use mathlib.Core.Path.{refl}
+use native.Mathlib.Omega.{arith}
+use lib.ListN.{length-set}
+use Rattle.basex_c.proofs.Told.{tells, tells_not}
+use Rattle.basex_c.proofs.requests.tell.Goals as goal
+
+pub returns-then-told-lt5 : goal.returns-then-told-lt5
+returns-then-told-lt5 c =
+    rw c.answer-in-Read-1.given.1 (tells_not _ (_ ∷ _ ∷ _ ∷ _ ∷ _ ∷ []) _ c.if-told-lt5.true c.refusal_code-then-told-lt5.ensures)
+
+pub bounds-told-1 : goal.bounds-told-1
+bounds-told-1 c =
+    simp length-set (omega arith)
+
+pub bounds-told-2 : goal.bounds-told-2
+bounds-told-2 c =
+    simp length-set (omega arith)
+
+pub bounds-told-3 : goal.bounds-told-3
+bounds-told-3 c =
+    simp length-set (omega arith)
+
+pub bounds-told-4 : goal.bounds-told-4
+bounds-told-4 c =
+    simp length-set (omega arith)
+
+pub returns-in-Refused : goal.returns-in-Refused
+returns-in-Refused c =
+    rw c.answer-1.given.1 (record { answers = c.refusal_code.ensures; leaves = refl })
+
+pub returns-else-told-lt5 : goal.returns-else-told-lt5
+returns-else-told-lt5 c =
+    rw c.answer-in-Read-1.given.1 (tells c.args.told.now (_ ∷ _ ∷ _ ∷ _ ∷ _ ∷ []) _ c.if-told-lt5.false refl)

@@ -1,0 +1,66 @@
+use mathlib.Core.Path.{◌≡◌, refl, sym, ap, ◌∙◌}
+use mathlib.Core.Bool.{Bool}
+use Prim.Native.Nat.{ℕ}
+use lib.Dec.{eqb}
+use lib.ListN.{length}
+use borrow.Author.Tests.{not-true, not-false}
+use Rattle.basex.specs.Kinds.{is_full, has_uri, item_strings}
+use Rattle.basex_response.specs.Writing.{item_written}
+use Rattle.basex_response.proofs.Writes.{uri-told, refused_writes, put_writes, item-bytes, item-answer, item-no-place}
+use Rattle.basex_response.proofs.write.write_item.Goals as goal
+
+-- whether the item has a URI
+uris : (c : tie.After-item-strings) → eqb c.item-strings.result 2 ≡ has_uri (is_full c.before.before.before.before.before.before.before.reply.given.0.1.0)
+    c.before.before.before.before.before.before.before.before.before.before.before.before.before.args.id
+uris c = ap (λ (n : ℕ). eqb n 2) (c.item-strings.ensures ∙ ap
+    (λ (f : Bool). item_strings f c.before.before.before.before.before.before.before.before.before.before.before.before.before.args.id) c.before.is-full.ensures) ∙ uri-told _ _
+
+pub returns-then-not-is_listed : goal.returns-then-not-is_listed
+unfolding item_written
+returns-then-not-is_listed c =
+    rw (sym c.find.ensures ∙ c.reply-1.given.1)
+    (rw (sym c.is_listed.ensures ∙ c.if-not-is_listed.true) (record { answers = refl; leaves = refl }))
+
+pub returns-then-not-id_allowed : goal.returns-then-not-id_allowed
+unfolding item_written
+returns-then-not-id_allowed c =
+    rw (sym c.find.ensures ∙ c.reply-1.given.1)
+    (rw (
+      sym c.is_listed.ensures ∙ c.if-not-is_listed.false,
+      sym c.id_allowed.ensures
+          ∙ c.if-not-id_allowed.true,
+    ) (record { answers = refl; leaves = refl }))
+
+pub returns-then-not-has_place : goal.returns-then-not-has_place
+unfolding item_written
+returns-then-not-has_place c =
+    let a = c.args in
+    let u = uris c in
+    refused_writes _ _ a.out.now a.at _
+    (item-no-place (length a.out.now) a.at a.kind a.id _ _ a.uri.now a.text.now
+    (sym c.find.ensures
+    ∙ c.reply-1.given.1) _ u
+    (sym c.is_listed.ensures ∙ c.if-not-is_listed.false)
+    (sym c.id_allowed.ensures ∙ c.if-not-id_allowed.false)
+    (sym c.has_place.ensures ∙ c.if-not-has_place.true))
+
+pub returns-in-Unknown : goal.returns-in-Unknown
+unfolding item_written
+returns-in-Unknown c =
+    rw (sym c.find.ensures ∙ c.enum_told-1.given.1) (record { answers = refl; leaves = refl })
+
+pub returns-else-not-has_place : goal.returns-else-not-has_place
+unfolding item_written
+returns-else-not-has_place c =
+    let a = c.args in
+    let u = uris c in
+    let k = sym c.find.ensures
+    ∙ c.reply-1.given.1 in
+    put_writes a.out.now a.at _ _ (item-bytes (length a.out.now) a.at a.kind a.id _ _ a.uri.now a.text.now k _ u) _
+    (item-answer (length a.out.now) a.at a.kind a.id _ _ a.uri.now a.text.now k _ u
+    (sym c.is_listed.ensures
+    ∙ c.if-not-is_listed.false)
+    (sym c.id_allowed.ensures
+    ∙ c.if-not-id_allowed.false)
+    (sym c.has_place.ensures ∙ c.if-not-has_place.false))
+    c.put_item.ensures

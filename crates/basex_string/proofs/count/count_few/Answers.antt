@@ -1,0 +1,27 @@
+use mathlib.Core.Logic.{⊎_elim}
+use mathlib.Core.Path.{sym, ◌∙◌}
+use Prim.Native.Nat.{◌-◌}
+use native.Mathlib.Omega.{arith}
+use borrow.Author.Rules.{rules}
+use Rattle.basex_string.specs.inner.Runs.{specials}
+use Rattle.basex_string.proofs.Steps.{specials-end, specials-special, specials-plain}
+use Rattle.basex_string.proofs.count.count_few.Goals as goal
+
+pub loop-i-init : goal.loop-i-init
+loop-i-init c =
+    (search rules, (search rules, omega arith))
+
+pub loop-i-preserved : goal.loop-i-preserved
+loop-i-preserved c =
+    let s = c.args.part.now in
+    let i = c.loop-i.i in
+    let h = c.loop-i-test.true in
+    let e = sym c.is_special.ensures in
+    ⊎_elim
+    (λ w. let k = specials-special s i h (e ∙ w.0.taken) in omega arith)
+    (λ w. let k = specials-plain s i h (e ∙ w.0.left) in omega arith)
+    c.if-is_special.branch
+
+pub returns : goal.returns
+returns c =
+    let e = specials-end c.args.part.now c.loop-i.i c.loop-i-test.false in omega arith

@@ -1,0 +1,13 @@
+use mathlib.Core.Path.{◌≡◌}
+use Prim.Native.Nat.{◌-◌, ◌≤◌}
+use lib.ListN.{length, drop}
+use Rattle.wire.specs.Bytes.{splice}
+use Rattle.wire.proofs.Splices.{Ahead}
+use Rattle.basex_string.specs.Strings.{string}
+use Rattle.basex_string.proofs.store_string.Given as goal
+
+abbrev pub invariant-loop-i : goal.invariant-loop-i
+invariant-loop-i l = (length l.out ≡ length l.initial.out) × ((l.i ≤ length l.text) × Ahead (splice l.initial.out l.at (string l.text)) l.out l.to (string (drop l.i l.text)))
+
+abbrev pub decreases-loop-i : goal.decreases-loop-i
+decreases-loop-i l = length l.text - l.i

@@ -1,0 +1,32 @@
+use mathlib.Core.List.{[], ◌∷◌}
+use native.Mathlib.Omega.{arith}
+use Rattle.wire.proofs.Splices.{step, last}
+use Rattle.sedna.specs.Encode.{body_bytes}
+use Rattle.sedna.specs.Message.{Body, message}
+use Rattle.sedna_write.proofs.Puts.{counted, refused, body-ahead, done, statement_head}
+use Rattle.sedna_write.proofs.write_statement.Goals as goal
+
+pub put_string-requires : goal.put_string-requires
+put_string-requires c =
+    
+    let f = counted c.begin_text-w.ensures c.w-in-Count-1.given.1 in
+    (omega arith, omega arith)
+
+pub returns-in-Refused : goal.returns-in-Refused
+returns-in-Refused c =
+    
+    let a = c.args in
+    let h = statement_head a.format a.text.now c.format_allowed-allowed.ensures c.begin_text-w.ensures in
+    refused a.out.now (message a.instruction (Body.statement a.format a.text.now)) h c.w-1.given.1
+
+pub returns-in-Count : goal.returns-in-Count
+unfolding body_bytes
+returns-in-Count c =
+    
+    let q = c.w-in-Count-1.given.1 in
+    
+    let a = c.args in
+    let h = statement_head a.format a.text.now c.format_allowed-allowed.ensures c.begin_text-w.ensures in
+    let z = body-ahead a.out.now (message a.instruction (Body.statement a.format a.text.now)) h q in
+    let z0 = step (a.format ∷ []) 9 z c.put_byte.ensures (omega arith) in
+    done a.out.now (message a.instruction (Body.statement a.format a.text.now)) h q (last z0 c.put_string.ensures)

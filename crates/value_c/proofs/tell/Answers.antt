@@ -1,0 +1,61 @@
+use mathlib.Core.Path.{◌≡◌, refl, ◌∙◌}
+use native.Mathlib.Omega.{arith}
+use lib.IntN.{pos}
+use mir.Facts.{to_z-of_z, to_z_pos}
+use mir.Syntax.{w64}
+use borrow.Author.Rules.{sfits_of}
+use borrow.Author.Tests.{lt-ltb, le-ltb}
+use Rattle.value_c.specs.Values.{flag_of, zero, in_numbers, lent_outcome}
+use Rattle.value_c.proofs.Numbers.{zero_bits, flag_kept, numbers_eq}
+use Rattle.value_c.proofs.tell.Goals as goal
+
+pub returns-then-numbers-lt2 : goal.returns-then-numbers-lt2
+unfolding lent_outcome
+returns-then-numbers-lt2 c =
+    rw (lt-ltb _ _ c.if-numbers-lt2.true) (record { answers = c.refusal_code.ensures; leaves_numbers = refl; leaves_doubles = refl })
+
+pub returns-then-doubles-lt1 : goal.returns-then-doubles-lt1
+unfolding lent_outcome
+returns-then-doubles-lt1 c =
+    rw (le-ltb _ _ c.if-numbers-lt2.false, lt-ltb _ _ c.if-doubles-lt1.true)
+    (record { answers = c.refusal_code-then-doubles-lt1.ensures; leaves_numbers = refl; leaves_doubles = refl })
+
+pub returns-in-Whole : goal.returns-in-Whole
+unfolding lent_outcome
+returns-in-Whole c =
+    
+    let v = c.value-1.given in
+    
+    let e : c.in_numbers.result ≡ in_numbers 1 v.0.0 (pos 0) zero =
+    c.in_numbers.ensures ∙ numbers_eq 1 (to_z-of_z (sfits_of c.known_told-1.given.0.1)) refl zero_bits in
+    rw (le-ltb _ _ c.if-numbers-lt2.false, le-ltb _ _ c.if-doubles-lt1.false, v.1) (rw e at c.put.ensures)
+
+pub returns-in-At : goal.returns-in-At
+unfolding lent_outcome
+returns-in-At c =
+    
+    let v = c.value-in-At-1.given in
+    
+    let t = c.struct_told-1.given in
+    let e : c.in_numbers-in-At.result ≡ in_numbers 2 v.0.0.seconds (pos v.0.0.nanos) zero =
+    c.in_numbers-in-At.ensures ∙ numbers_eq 2 (to_z-of_z (sfits_of t.0.1)) (to_z_pos w64 (omega (arith, t.1.0.1))) zero_bits in
+    rw (le-ltb _ _ c.if-numbers-lt2.false, le-ltb _ _ c.if-doubles-lt1.false, v.1) (rw e at c.put-in-At.ensures)
+
+pub returns-in-Boolean : goal.returns-in-Boolean
+unfolding lent_outcome
+returns-in-Boolean c =
+    
+    let v = c.value-in-Boolean-1.given in
+    
+    let e : c.in_numbers-in-Boolean.result ≡ in_numbers 3 (flag_of v.0.0) (pos 0) zero =
+    c.in_numbers-in-Boolean.ensures ∙ numbers_eq 3 (flag_kept v.0.0 c.flag.ensures) refl zero_bits in
+    rw (le-ltb _ _ c.if-numbers-lt2.false, le-ltb _ _ c.if-doubles-lt1.false, v.1) (rw e at c.put-in-Boolean.ensures)
+
+pub returns-in-Double : goal.returns-in-Double
+unfolding lent_outcome
+returns-in-Double c =
+    
+    let v = c.value-in-Double-1.given in
+    
+    let e : c.in_numbers-in-Double.result ≡ in_numbers 4 (pos 0) (pos 0) v.0.0 = c.in_numbers-in-Double.ensures in
+    rw (le-ltb _ _ c.if-numbers-lt2.false, le-ltb _ _ c.if-doubles-lt1.false, v.1) (rw e at c.put-in-Double.ensures)
