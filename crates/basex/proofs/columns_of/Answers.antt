@@ -24,20 +24,20 @@ enum_told-in-Full c =
 
 pub returns-in-Command : goal.returns-in-Command
 returns-in-Command c =
-    rw c.enum_told-1.given.1 refl
+    rw c.in-Command.is refl
 
 pub returns-in-Create : goal.returns-in-Create
 returns-in-Create c =
-    rw c.enum_told-in-Create-1.given.1 refl
+    rw c.in-Create.is refl
 
 pub returns-in-Query : goal.returns-in-Query
 returns-in-Query c =
-    rw c.enum_told-in-Query-1.given.1 refl
+    rw c.in-Query.is refl
 
 pub returns-in-Results : goal.returns-in-Results
 returns-in-Results c =
-    rw c.enum_told-in-Results-1.given.1 refl
+    rw c.in-Results.is refl
 
 pub returns-in-Full : goal.returns-in-Full
 returns-in-Full c =
-    rw c.enum_told-in-Full-1.given.1 refl
+    rw c.in-Full.is refl

@@ -9,25 +9,25 @@ use Rattle.basex_string.proofs.decode.Goals as goal
 pub store_text-requires : goal.store_text-requires
 store_text-requires c =
     let a = c.args in
-    let h = (counted-there (length a.out.now) a.to c.len-1.given.0.0 _
-    (sym c.in_room.ensures ∙ c.enum_told-1.given.1)).1 in
-    (sym c.string_at.ensures ∙ c.len-1.given.1, omega arith)
+    let h = (counted-there (length a.out.now) a.to c.in-At.len _
+    (sym c.in_room.ensures ∙ c.in-Count.is)).1 in
+    (sym c.string_at.ensures ∙ c.in-At.is, omega arith)
 
 pub returns-in-Refused : goal.returns-in-Refused
 returns-in-Refused c =
     let a = c.args in
-    refused-decoded _ a.to a.out.now (reading (drop a.at a.bytes.now)) (sym c.string_at.ensures ∙ c.r-1.given.1)
+    refused-decoded _ a.to a.out.now (reading (drop a.at a.bytes.now)) (sym c.string_at.ensures ∙ c.in-Refused.is)
 
 pub returns-in-Refused-in_room : goal.returns-in-Refused-in_room
 returns-in-Refused-in_room c =
     let a = c.args in
-    let e = sym c.string_at.ensures ∙ c.len-1.given.1 in
-    cramped_decoded _ a.to a.out.now (reading (drop a.at a.bytes.now)) e (sym c.in_room.ensures ∙ c.r-in-Refused-in_room-1.given.1)
+    let e = sym c.string_at.ensures ∙ c.in-At.is in
+    cramped_decoded _ a.to a.out.now (reading (drop a.at a.bytes.now)) e (sym c.in_room.ensures ∙ c.in-Refused-in_room.is)
 
 pub returns-in-Count : goal.returns-in-Count
 returns-in-Count c =
     let a = c.args in
     let e = sym c.string_at.ensures
-    ∙ c.len-1.given.1 in
-    let h = sym c.in_room.ensures ∙ c.enum_told-1.given.1 in
+    ∙ c.in-At.is in
+    let h = sym c.in_room.ensures ∙ c.in-Count.is in
     stored-decoded _ a.to a.out.now (reading (drop a.at a.bytes.now)) e h c.store_text.ensures

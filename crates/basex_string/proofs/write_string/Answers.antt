@@ -1,7 +1,6 @@
 use mathlib.Core.Path.{sym, ap, ◌∙◌}
 use native.Mathlib.Omega.{arith}
 use lib.ListN.{length}
-use borrow.Author.Tests.{not-true, not-false}
 use Rattle.wire.specs.Bytes.{splice}
 use Rattle.wire.proofs.Call.{room-there, room-short, no_room, is-room}
 use Rattle.basex_string.specs.Strings.{string}

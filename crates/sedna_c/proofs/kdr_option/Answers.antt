@@ -8,7 +8,7 @@ use Rattle.sedna_c.proofs.kdr_option.Goals as goal
 
 pub returns-then-fields-lt3 : goal.returns-then-fields-lt3
 returns-then-fields-lt3 c =
-    rw (← c.option_at.ensures, c.id-1.given.1, lt-ltb _ _ c.if-fields-lt3.true)
+    rw (← c.option_at.ensures, c.in-At.is, lt-ltb _ _ c.if-fields-lt3.true)
     (record { answers = c.refusal_code.ensures; leaves = refl })
 
 pub bounds-fields-1 : goal.bounds-fields-1
@@ -17,11 +17,11 @@ bounds-fields-1 c =
 
 pub returns-in-Missing : goal.returns-in-Missing
 returns-in-Missing c =
-    rw (← c.option_at.ensures, c.enum_told-1.given.1) (record { answers = refl; leaves = refl })
+    rw (← c.option_at.ensures, c.in-Missing.is) (record { answers = refl; leaves = refl })
 
 pub returns-else-fields-lt3 : goal.returns-else-fields-lt3
 returns-else-fields-lt3 c =
     
     let d = c.args.fields.now in
-    rw (← c.option_at.ensures, c.id-1.given.1, le-ltb _ _ c.if-fields-lt3.false)
+    rw (← c.option_at.ensures, c.in-At.is, le-ltb _ _ c.if-fields-lt3.false)
     (record { answers = refl; leaves = front-sets d (_ ∷ _ ∷ _ ∷ []) (omega arith) })

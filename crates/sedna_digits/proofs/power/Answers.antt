@@ -6,65 +6,65 @@ use Rattle.sedna_digits.proofs.power.Goals as goal
 
 pub returns-in-0 : goal.returns-in-0
 returns-in-0 c =
-    rw c.in-0.keys1
+    rw c.in-0.is
 
 pub returns-in-1 : goal.returns-in-1
 returns-in-1 c =
-    rw c.in-1.keys2
+    rw c.in-1.is
 
 pub returns-in-2 : goal.returns-in-2
 returns-in-2 c =
-    rw c.in-2.keys3
+    rw c.in-2.is
 
 pub returns-in-3 : goal.returns-in-3
 returns-in-3 c =
-    rw c.in-3.keys4
+    rw c.in-3.is
 
 pub returns-in-4 : goal.returns-in-4
 returns-in-4 c =
-    rw c.in-4.keys5
+    rw c.in-4.is
 
 pub returns-in-5 : goal.returns-in-5
 returns-in-5 c =
-    rw c.in-5.keys6
+    rw c.in-5.is
 
 pub returns-in-6 : goal.returns-in-6
 returns-in-6 c =
-    rw c.in-6.keys7
+    rw c.in-6.is
 
 pub returns-in-7 : goal.returns-in-7
 returns-in-7 c =
-    rw c.in-7.keys8
+    rw c.in-7.is
 
 pub returns-in-8 : goal.returns-in-8
 returns-in-8 c =
-    rw c.in-8.keys9
+    rw c.in-8.is
 
 pub returns-in-9 : goal.returns-in-9
 returns-in-9 c =
-    rw c.in-9.keys10
+    rw c.in-9.is
 
 pub returns-in-10 : goal.returns-in-10
 returns-in-10 c =
-    rw c.in-10.keys11
+    rw c.in-10.is
 
 pub returns-in-11 : goal.returns-in-11
 returns-in-11 c =
-    rw c.in-11.keys12
+    rw c.in-11.is
 
 pub returns-in-12 : goal.returns-in-12
 returns-in-12 c =
-    rw c.in-12.keys13
+    rw c.in-12.is
 
 pub returns-in-13 : goal.returns-in-13
 returns-in-13 c =
-    rw c.in-13.keys14
+    rw c.in-13.is
 
 pub returns-in-14 : goal.returns-in-14
 returns-in-14 c =
-    rw c.in-14.keys15
+    rw c.in-14.is
 
 pub returns-in_default : goal.returns-in_default
 returns-in_default c =
-    let e : min c.args.k 15 ≡ 15 = omega (arith, passed c.args.k 0 15 (omega arith) c.in_default.rest) in
+    let e : min c.args.k 15 ≡ 15 = omega (arith, passed c.args.k 0 15 (omega arith) c.in_default) in
     rw e

@@ -5,33 +5,33 @@ use Rattle.sedna_read.proofs.body_at.Goals as goal
 pub returns-then-at-end : goal.returns-then-at-end
 returns-then-at-end c =
     let a = c.args in
-    rw c.enum_told-1.given.1 (sym (empty-some a.s.now a.at a.end c.requires.1 c.if-at-end.true))
+    rw c.in-Empty.is (sym (empty-some a.s.now a.at a.end c.requires.1 c.if-at-end.true))
 
 pub returns-else-at-end : goal.returns-else-at-end
 returns-else-at-end c =
     let a = c.args in
-    rw c.enum_told-1.given.1 (sym (empty-none a.s.now a.at a.end c.requires.1 c.if-at-end.false))
+    rw c.in-Empty.is (sym (empty-none a.s.now a.at a.end c.requires.1 c.if-at-end.false))
 
 pub returns-in-Session : goal.returns-in-Session
 returns-in-Session c =
-    rw c.enum_told-in-Session-1.given.1 c.session_at.ensures
+    rw c.in-Session.is c.session_at.ensures
 
 pub returns-in-Text : goal.returns-in-Text
 returns-in-Text c =
-    rw c.enum_told-in-Text-1.given.1 c.text_at.ensures
+    rw c.in-Text.is c.text_at.ensures
 
 pub returns-in-Statement : goal.returns-in-Statement
 returns-in-Statement c =
-    rw c.enum_told-in-Statement-1.given.1 c.statement_at.ensures
+    rw c.in-Statement.is c.statement_at.ensures
 
 pub returns-in-Coded : goal.returns-in-Coded
 returns-in-Coded c =
-    rw c.enum_told-in-Coded-1.given.1 c.coded_at.ensures
+    rw c.in-Coded.is c.coded_at.ensures
 
 pub returns-in-Options : goal.returns-in-Options
 returns-in-Options c =
-    rw c.enum_told-in-Options-1.given.1 c.options_at.ensures
+    rw c.in-Options.is c.options_at.ensures
 
 pub returns-in-Item : goal.returns-in-Item
 returns-in-Item c =
-    rw c.enum_told-in-Item-1.given.1 c.item_at.ensures
+    rw c.in-Item.is c.item_at.ensures

@@ -10,7 +10,7 @@ returns-then-n-gt10240 c =
     
     simp (
       le-ltb _ _ c.if-bytes-lt8.false,
-      c.found-1.given.1,
+      c.in-Known.is,
       ← c.side_number.ensures,
       ← c.side_number-in-Known.ensures,
       eq-eqb _ _
@@ -21,14 +21,14 @@ returns-then-n-gt10240 c =
 
 pub returns-in-Unknown : goal.returns-in-Unknown
 returns-in-Unknown c =
-    simp (le-ltb _ _ c.if-bytes-lt8.false, c.enum_told-1.given.1)
+    simp (le-ltb _ _ c.if-bytes-lt8.false, c.in-Unknown.is)
 
 pub returns-else-n-gt10240 : goal.returns-else-n-gt10240
 returns-else-n-gt10240 c =
     
     simp (
       le-ltb _ _ c.if-bytes-lt8.false,
-      c.found-1.given.1,
+      c.in-Known.is,
       ← c.side_number.ensures,
       ← c.side_number-in-Known.ensures,
       eq-eqb _ _
@@ -41,7 +41,7 @@ pub returns-else-side_number : goal.returns-else-side_number
 returns-else-side_number c =
     simp (
       le-ltb _ _ c.if-bytes-lt8.false,
-      c.found-1.given.1,
+      c.in-Known.is,
       ← c.side_number.ensures,
       ← c.side_number-in-Known.ensures,
       ne_eqb _ _

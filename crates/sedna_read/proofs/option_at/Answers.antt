@@ -29,24 +29,24 @@ returns-in-Refused c =
     sym (ap (option_at a.k a.pairs.start) (clipped a.bytes.now a.pairs.start a.pairs.len c.end_of-end.result c.if-n-start.false c.end_of-end.ensures)
     ∙ c.loop-i.invariant.1.1.1 ∙ option-refused a.bytes.now c.loop-i.p c.end_of-end.result a.k
     c.loop-i.i c.loop-i-test.true _
-    (place-refused c.loop-i.p _ _ (sym c.pair_at.ensures.0 ∙ c.enum_told-1.given.1)))
+    (place-refused c.loop-i.p _ _ (sym c.pair_at.ensures.0 ∙ c.in-Refused.is)))
 
 pub overflow_add-p : goal.overflow_add-p
 overflow_add-p c =
     
-    let w = subst (PairWithin c.loop-i.p c.end_of-end.result) c.value-1.given.1 c.pair_at.ensures.1 in omega arith
+    let w = subst (PairWithin c.loop-i.p c.end_of-end.result) c.in-At.is c.pair_at.ensures.1 in omega arith
 
 pub loop-i-preserved : goal.loop-i-preserved
 loop-i-preserved c =
     
-    let w = subst (PairWithin c.loop-i.p c.end_of-end.result) c.value-1.given.1 c.pair_at.ensures.1 in
+    let w = subst (PairWithin c.loop-i.p c.end_of-end.result) c.in-At.is c.pair_at.ensures.1 in
     let q = pair-next c.args.bytes.now c.loop-i.p c.end_of-end.result c.loop-i.invariant.1.0 _ _
-    (sym c.pair_at.ensures.0 ∙ c.value-1.given.1) in
-    let a : c.value-1.given.0.1.0.start ≡ c.loop-i.p + 9 = ap (λ (x : Place). x.start) q.2 in
-    let b : c.value-1.given.0.1.0.len ≡ length q.0.value = ap (λ (x : Place). x.len) q.2 in
-    let e : c.loop-i.p + 9 + length q.0.value ≡ c.value-1.given.0.1.0.start + c.value-1.given.0.1.0.len = omega arith in
+    (sym c.pair_at.ensures.0 ∙ c.in-At.is) in
+    let a : c.in-At.value.start ≡ c.loop-i.p + 9 = ap (λ (x : Place). x.start) q.2 in
+    let b : c.in-At.value.len ≡ length q.0.value = ap (λ (x : Place). x.len) q.2 in
+    let e : c.loop-i.p + 9 + length q.0.value ≡ c.in-At.value.start + c.in-At.value.len = omega arith in
     let rest : List ℕ = window c.args.bytes.now
-    (c.value-1.given.0.1.0.start + c.value-1.given.0.1.0.len) c.end_of-end.result in (
+    (c.in-At.value.start + c.in-At.value.len) c.end_of-end.result in (
       w.1,
       (
         c.loop-i.invariant.1.0,
@@ -68,7 +68,7 @@ returns-in-Refused-pair_at c =
     c.loop-i.i c.loop-i-test.false
     ∙ ap (option_place c.loop-i.p)
     (place-refused c.loop-i.p (pair_field (window a.bytes.now c.loop-i.p c.end_of-end.result)) _
-    (sym c.pair_at-2.ensures.0 ∙ c.enum_told-in-Refused-pair_at-1.given.1)))
+    (sym c.pair_at-2.ensures.0 ∙ c.in-Refused-pair_at.is)))
 
 pub returns-in-At-pair_at : goal.returns-in-At-pair_at
 returns-in-At-pair_at c =
@@ -78,4 +78,4 @@ returns-in-At-pair_at c =
     (clipped a.bytes.now a.pairs.start a.pairs.len c.end_of-end.result c.if-n-start.false c.end_of-end.ensures) ∙ c.loop-i.invariant.1.1.1
     ∙ option_here a.bytes.now c.loop-i.p c.end_of-end.result a.k c.loop-i.i c.loop-i-test.false
     ∙ place_found c.loop-i.p (pair_field (window a.bytes.now c.loop-i.p c.end_of-end.result)) _ _
-    (sym c.pair_at-2.ensures.0 ∙ c.id-1.given.1))
+    (sym c.pair_at-2.ensures.0 ∙ c.in-At-pair_at.is))

@@ -16,7 +16,7 @@ returns-in-Refused c =
     let a = c.args in (
       ap (pair_place a.at)
           (sym (pair-refused a.s.now a.at a.end c.requires.1 c.if-end-at-lt4.false _
-          (sym c.string_at.ensures.0 ∙ c.r-1.given.1))),
+          (sym c.string_at.ensures.0 ∙ c.in-Refused.is))),
       tt,
     )
 
@@ -24,9 +24,9 @@ pub returns-in-At : goal.returns-in-At
 returns-in-At c =
     
     let a = c.args in
-    let w = subst (Within (a.at + 4) a.end) c.value-1.given.1 c.string_at.ensures.1 in (
+    let w = subst (Within (a.at + 4) a.end) c.in-At.is c.string_at.ensures.1 in (
       rw c.get_int-id.ensures.0
           (sym (pair_found a.s.now a.at a.end c.requires.1 c.if-end-at-lt4.false _
-          (sym c.string_at.ensures.0 ∙ c.value-1.given.1))),
+          (sym c.string_at.ensures.0 ∙ c.in-At.is))),
       omega arith,
     )

@@ -12,14 +12,14 @@ returns-in-Refused c =
     
     let a = c.args in
     rw (statement-form a.s.now a.at a.end c.requires.1)
-    (simp (lt-ltb _ _ c.if-end-at.false, ← c.format_allowed.ensures, c.if-format_allowed.true, ← c.last_string.ensures, c.r-1.given.1))
+    (simp (lt-ltb _ _ c.if-end-at.false, ← c.format_allowed.ensures, c.if-format_allowed.true, ← c.last_string.ensures, c.in-Refused.is))
 
 pub returns-in-At : goal.returns-in-At
 returns-in-At c =
     
     let a = c.args in
     rw (statement-form a.s.now a.at a.end c.requires.1)
-    (simp (lt-ltb _ _ c.if-end-at.false, ← c.format_allowed.ensures, c.if-format_allowed.true, ← c.last_string.ensures, c.text-1.given.1))
+    (simp (lt-ltb _ _ c.if-end-at.false, ← c.format_allowed.ensures, c.if-format_allowed.true, ← c.last_string.ensures, c.in-At.is))
 
 pub returns-else-format_allowed : goal.returns-else-format_allowed
 returns-else-format_allowed c =

@@ -13,12 +13,12 @@ returns-then-flag-eq0 c =
 pub overflow_add-next : goal.overflow_add-next
 overflow_add-next c =
     let a = c.args in
-    let w = subst (Within (a.at + 3) a.end) c.p-1.given.1 c.string_at.ensures.1 in omega arith
+    let w = subst (Within (a.at + 3) a.end) c.in-At.is c.string_at.ensures.1 in omega arith
 
 pub part_at-requires-in-At : goal.part_at-requires-in-At
 part_at-requires-in-At c =
     let a = c.args in
-    let w = subst (Within (a.at + 3) a.end) c.p-1.given.1 c.string_at.ensures.1 in
+    let w = subst (Within (a.at + 3) a.end) c.in-At.is c.string_at.ensures.1 in
     (w.1, c.requires.1)
 
 pub returns-in-Refused : goal.returns-in-Refused
@@ -26,14 +26,14 @@ returns-in-Refused c =
     
     let a = c.args in
     rw (c.if-flag-eq1.true, url-some a.s.now a.at a.end c.requires.1 c.requires.0 a.class a.kind)
-    (simp (← c.string_at.ensures.0, c.r-1.given.1))
+    (simp (← c.string_at.ensures.0, c.in-Refused.is))
 
 pub returns-in-At : goal.returns-in-At
 returns-in-At c =
     
     let a = c.args in
     rw (c.if-flag-eq1.true, url-some a.s.now a.at a.end c.requires.1 c.requires.0 a.class a.kind)
-    (simp (← c.string_at.ensures.0, c.p-1.given.1, c.part_at-in-At.ensures))
+    (simp (← c.string_at.ensures.0, c.in-At.is, c.part_at-in-At.ensures))
 
 pub returns-else-flag-eq1 : goal.returns-else-flag-eq1
 returns-else-flag-eq1 c =

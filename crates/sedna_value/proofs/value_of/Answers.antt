@@ -13,28 +13,28 @@ returns-then-class-ne1 c =
 pub returns-in-10 : goal.returns-in-10
 unfolding value_of
 returns-in-10 c =
-    rw (c.if-class-ne1.false, c.in-10.keys1, ← c.instant.ensures) c.from_dated.ensures
+    rw (c.if-class-ne1.false, c.in-10.is, ← c.instant.ensures) c.from_dated.ensures
 
 pub returns-in-22 : goal.returns-in-22
 unfolding value_of
 returns-in-22 c =
-    rw (c.if-class-ne1.false, c.in-22.keys2) c.double.ensures
+    rw (c.if-class-ne1.false, c.in-22.is) c.double.ensures
 
 pub returns-in-25 : goal.returns-in-25
 unfolding value_of
 returns-in-25 c =
-    rw (c.if-class-ne1.false, c.in-25.keys3) c.boolean.ensures
+    rw (c.if-class-ne1.false, c.in-25.is) c.boolean.ensures
 
 pub returns-in_default : goal.returns-in_default
 unfolding value_of
 returns-in_default c =
-    let r = c.in_default-1.rest in
+    let r = c.in_default in
     rw c.if-class-ne1.false (simp (ne_eqb _ _ r.0.0.0.1, ne_eqb _ _ r.0.0.1, ne_eqb _ _ r.0.1, ne_eqb _ _ r.1, lt-leb _ _ c.if-kind-lt50.true))
 
 pub returns-in_default-2 : goal.returns-in_default-2
 unfolding value_of
 returns-in_default-2 c =
-    let r = c.in_default-1.rest in
+    let r = c.in_default in
     rw c.if-class-ne1.false (simp (
       ne_eqb _ _ r.0.0.0.1,
       ne_eqb _ _ r.0.0.1,

@@ -11,19 +11,19 @@ pub overflow_cast-n : goal.overflow_cast-n
 overflow_cast-n c =
     
     let a = c.args in
-    let f = counts a.instruction a.shape a.allowed a.n (length a.out.now) _ (sym c.judge-w.ensures ∙ c.w-in-Count-1.given.1) in
+    let f = counts a.instruction a.shape a.allowed a.n (length a.out.now) _ (sym c.judge-w.ensures ∙ c.in-Count.is) in
     record { fits = omega arith }
 
 pub returns-in-Refused : goal.returns-in-Refused
 returns-in-Refused c =
-    record { answers = sym c.w-1.given.1 ∙ c.judge-w.ensures; leaves = refl }
+    record { answers = sym c.in-Refused.is ∙ c.judge-w.ensures; leaves = refl }
 
 pub returns-in-Count : goal.returns-in-Count
 unfolding int
 returns-in-Count c =
     
     let a = c.args in
-    let q = sym c.w-in-Count-1.given.1 ∙ c.judge-w.ensures in
+    let q = sym c.in-Count.is ∙ c.judge-w.ensures in
     let f = counts a.instruction a.shape a.allowed a.n (length a.out.now) _ (sym q) in
     let i = int a.instruction in
     let l = int a.n in

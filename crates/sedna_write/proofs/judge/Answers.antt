@@ -1,6 +1,6 @@
 use mathlib.Core.Path.{sym, ◌∙◌}
 use Prim.Native.Nat.{◌+◌}
-use borrow.Author.Tests.{lt-ltb, le-ltb, not-true, not-false}
+use borrow.Author.Tests.{lt-ltb, le-ltb}
 use Rattle.wire.proofs.Call.{room-there, room-short, no_room, is-room}
 use Rattle.sedna_write.specs.Writing.{judgement}
 use Rattle.sedna_write.proofs.judge.Goals as goal
@@ -8,7 +8,7 @@ use Rattle.sedna_write.proofs.judge.Goals as goal
 pub returns-then-n-gt10240 : goal.returns-then-n-gt10240
 unfolding judgement
 returns-then-n-gt10240 c =
-    simp (← c.fits.ensures, c.enum_told-in-Same-1.given.1, c.if-allowed.true, lt-ltb _ _ c.if-n-gt10240.true)
+    simp (← c.fits.ensures, c.in-Same.is, c.if-allowed.true, lt-ltb _ _ c.if-n-gt10240.true)
 
 pub returns-then-not-has_room : goal.returns-then-not-has_room
 unfolding judgement
@@ -17,7 +17,7 @@ returns-then-not-has_room c =
     sym (room-short a.room 0 (8 + a.n) (no_room a.room 0 (8 + a.n) c.has_room.ensures c.if-not-has_room.true)) ∙ sym
     (simp (
       ← c.fits.ensures,
-      c.enum_told-in-Same-1.given.1,
+      c.in-Same.is,
       c.if-allowed.true,
       le-ltb _ _ c.if-n-gt10240.false,
     ))
@@ -29,7 +29,7 @@ returns-then-allowed c =
     sym (room-there a.room 0 (8 + a.n) (is-room a.room 0 (8 + a.n) c.has_room.ensures c.if-not-has_room.false)) ∙ sym
     (simp (
       ← c.fits.ensures,
-      c.enum_told-in-Same-1.given.1,
+      c.in-Same.is,
       c.if-allowed.true,
       le-ltb _ _ c.if-n-gt10240.false,
     ))
@@ -37,14 +37,14 @@ returns-then-allowed c =
 pub returns-in-Unknown : goal.returns-in-Unknown
 unfolding judgement
 returns-in-Unknown c =
-    simp (← c.fits.ensures, c.enum_told-1.given.1)
+    simp (← c.fits.ensures, c.in-Unknown.is)
 
 pub returns-in-Other : goal.returns-in-Other
 unfolding judgement
 returns-in-Other c =
-    simp (← c.fits.ensures, c.enum_told-in-Other-1.given.1)
+    simp (← c.fits.ensures, c.in-Other.is)
 
 pub returns-else-allowed : goal.returns-else-allowed
 unfolding judgement
 returns-else-allowed c =
-    simp (← c.fits.ensures, c.enum_told-in-Same-1.given.1, c.if-allowed.false)
+    simp (← c.fits.ensures, c.in-Same.is, c.if-allowed.false)

@@ -13,7 +13,7 @@ put_pairs-requires c =
     let a = c.args in
     let h = options_head a.ids.now a.lengths.now a.values.now c.pairs_given-allowed.ensures c.capped.ensures
     c.capped-2.ensures c.begin-w.ensures in
-    options_fit a.ids.now a.lengths.now a.values.now h c.w-in-Count-1.given.1 (omega arith)
+    options_fit a.ids.now a.lengths.now a.values.now h c.in-Count.is (omega arith)
 
 pub returns-in-Refused : goal.returns-in-Refused
 unfolding body_bytes
@@ -22,13 +22,13 @@ returns-in-Refused c =
     let a = c.args in
     let h = options_head a.ids.now a.lengths.now a.values.now c.pairs_given-allowed.ensures c.capped.ensures
     c.capped-2.ensures c.begin-w.ensures in
-    refused a.out.now (options_message a.instruction a.ids.now a.lengths.now a.values.now) h c.w-1.given.1
+    refused a.out.now (options_message a.instruction a.ids.now a.lengths.now a.values.now) h c.in-Refused.is
 
 pub returns-in-Count : goal.returns-in-Count
 unfolding body_bytes
 returns-in-Count c =
     
-    let q = c.w-in-Count-1.given.1 in
+    let q = c.in-Count.is in
     
     let a = c.args in
     let h = options_head a.ids.now a.lengths.now a.values.now c.pairs_given-allowed.ensures c.capped.ensures

@@ -12,21 +12,21 @@ use Rattle.sedna_write.proofs.write_session.Goals as goal
 pub put_string-requires : goal.put_string-requires
 put_string-requires c =
     
-    let f = counted c.begin-w.ensures c.w-in-Count-1.given.1 in
+    let f = counted c.begin-w.ensures c.in-Count.is in
     let n = c.capped-n.ensures in
     (omega arith, omega arith)
 
 pub overflow_add-user : goal.overflow_add-user
 overflow_add-user c =
     
-    let f = counted c.begin-w.ensures c.w-in-Count-1.given.1 in
+    let f = counted c.begin-w.ensures c.in-Count.is in
     let n = c.capped-n.ensures in
     omega arith
 
 pub put_string-requires-in-Count : goal.put_string-requires-in-Count
 put_string-requires-in-Count c =
     
-    let f = counted c.begin-w.ensures c.w-in-Count-1.given.1 in
+    let f = counted c.begin-w.ensures c.in-Count.is in
     let n = c.capped-n.ensures in
     (omega arith, omega arith)
 
@@ -35,13 +35,13 @@ returns-in-Refused c =
     
     let a = c.args in
     let h = session_head a.major a.minor a.user.now a.database.now c.version_allowed-allowed.ensures c.capped-n.ensures c.begin-w.ensures in
-    refused a.out.now (message a.instruction (Body.session a.major a.minor a.user.now a.database.now)) h c.w-1.given.1
+    refused a.out.now (message a.instruction (Body.session a.major a.minor a.user.now a.database.now)) h c.in-Refused.is
 
 pub returns-in-Count : goal.returns-in-Count
 unfolding body_bytes string int
 returns-in-Count c =
     
-    let q = c.w-in-Count-1.given.1 in
+    let q = c.in-Count.is in
     
     let a = c.args in
     let h = session_head a.major a.minor a.user.now a.database.now c.version_allowed-allowed.ensures c.capped-n.ensures c.begin-w.ensures in

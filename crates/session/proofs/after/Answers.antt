@@ -3,8 +3,8 @@ use Rattle.session.proofs.after.Goals as goal
 
 pub returns-then-instruction-eq-SESSION_PARAMETERS : goal.returns-then-instruction-eq-SESSION_PARAMETERS
 returns-then-instruction-eq-SESSION_PARAMETERS c =
-    rw c.answer-1.given.1 (simp (eq-eqb _ _ c.if-instruction-eq-SESSION_PARAMETERS.true, c.major-version.ensures))
+    rw c.in-Message.is (simp (eq-eqb _ _ c.if-instruction-eq-SESSION_PARAMETERS.true, c.major-version.ensures))
 
 pub returns-else-instruction-eq-SESSION_PARAMETERS : goal.returns-else-instruction-eq-SESSION_PARAMETERS
 returns-else-instruction-eq-SESSION_PARAMETERS c =
-    rw c.answer-1.given.1 (simp (ne_eqb _ _ c.if-instruction-eq-SESSION_PARAMETERS.false))
+    rw c.in-Message.is (simp (ne_eqb _ _ c.if-instruction-eq-SESSION_PARAMETERS.false))

@@ -19,7 +19,7 @@ no-major (places.Item class kind url part) k = refl
 
 pub returns-in-Session : goal.returns-in-Session
 returns-in-Session c =
-    simp c.places-1.given.1
+    simp c.in-Session.is
 
 pub returns-in_default : goal.returns-in_default
 returns-in_default c =

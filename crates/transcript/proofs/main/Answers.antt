@@ -7,8 +7,8 @@ use Rattle.transcript.proofs.main.Goals as goal
 
 pub slice_bounds-buffer-end : goal.slice_bounds-buffer-end
 slice_bounds-buffer-end c =
-    of_record _ c.read_record.ensures c.got-1.given.1
+    of_record _ c.read_record.ensures c.in-Bytes.is
 
 pub slice_bounds-say_next_line-end : goal.slice_bounds-say_next_line-end
 slice_bounds-say_next_line-end c =
-    sym (length-take-le _ _ (of_record _ c.read_record.ensures c.got-1.given.1))
+    sym (length-take-le _ _ (of_record _ c.read_record.ensures c.in-Bytes.is))

@@ -13,26 +13,26 @@ pub slice_bounds-judge_head-end : goal.slice_bounds-judge_head-end
 slice_bounds-judge_head-end c =
     let d = c.args.buffer.now in
     let h = c.read_head in
-    let w = within _ h.ensures c.got-1.given.1 in
+    let w = within _ h.ensures c.in-Bytes.is in
     got-fits d h.new.0 _ (omega arith) h.auto.out w
 
 pub slice_bounds-judge_head-end-2 : goal.slice_bounds-judge_head-end-2
 slice_bounds-judge_head-end-2 c =
     let d = c.args.buffer.now in
     let h = c.read_head in
-    let w = within _ h.ensures c.got-1.given.1 in
+    let w = within _ h.ensures c.in-Bytes.is in
     sym (length-take-le _ _ (got-fits d h.new.0 _ (omega arith) h.auto.out w))
 
 pub overflow_add-end : goal.overflow_add-end
 overflow_add-end c =
-    omega (arith, payload_bound _ c.judge_head.ensures.bounded c.len-1.given.1)
+    omega (arith, payload_bound _ c.judge_head.ensures.bounded c.in-Record.is)
 
 pub slice_bounds-read_full-end : goal.slice_bounds-read_full-end
 slice_bounds-read_full-end c =
     let d = c.args.buffer.now in
     let h = c.read_head in
-    let w = within _ h.ensures c.got-1.given.1 in
-    end_fits d h.new.0 _ (omega arith) h.auto.out w c.judge_head.ensures c.len-1.given.1
+    let w = within _ h.ensures c.in-Bytes.is in
+    end_fits d h.new.0 _ (omega arith) h.auto.out w c.judge_head.ensures c.in-Record.is
 
 pub overflow_add-result : goal.overflow_add-result
 overflow_add-result c =
@@ -40,9 +40,9 @@ overflow_add-result c =
     
     let d = c.args.buffer.now in
     let h = c.read_head in
-    let w = within _ h.ensures c.got-1.given.1 in
+    let w = within _ h.ensures c.in-Bytes.is in
     let o = payload-read d h.new.0 _ (omega arith) h.auto.out w c.judge_head.ensures
-    c.len-1.given.1 c.read_full.new.1.0 c.read_full.result
+    c.in-Record.is c.read_full.new.1.0 c.read_full.result
     c.read_full.auto.1.0 c.read_full.ensures.0 in
     omega (arith, o.0)
 
@@ -50,7 +50,7 @@ pub returns-in-Damaged : goal.returns-in-Damaged
 returns-in-Damaged c =
     let d = c.args.buffer.now in
     let h = c.read_head in
-    let w = within _ h.ensures c.got-1.given.1 in
+    let w = within _ h.ensures c.in-Bytes.is in
     head_read d h.new.0 _ (omega arith) h.auto.out w
 
 pub returns-in-Record : goal.returns-in-Record
@@ -59,6 +59,6 @@ returns-in-Record c =
     
     let d = c.args.buffer.now in
     let h = c.read_head in
-    let w = within _ h.ensures c.got-1.given.1 in
+    let w = within _ h.ensures c.in-Bytes.is in
     payload-read d h.new.0 _ (omega arith) h.auto.out w c.judge_head.ensures
-    c.len-1.given.1 c.read_full.new.1.0 _ c.read_full.auto.1.0 c.read_full.ensures.0
+    c.in-Record.is c.read_full.new.1.0 _ c.read_full.auto.1.0 c.read_full.ensures.0

@@ -7,15 +7,15 @@ returns-then-say c =
     
     let a = c.args in
     goes_on_lem 38 a.number a.session (front a.bytes.now) c.put_next_line.ensures.answers
-    c.count-1.given.1
+    c.in-Record.is
 
 pub returns-in-Last : goal.returns-in-Last
 returns-in-Last c =
     let a = c.args in
-    ended 38 a.number a.session (front a.bytes.now) c.put_next_line.ensures.answers c.count-in-Last-1.given.1
+    ended 38 a.number a.session (front a.bytes.now) c.put_next_line.ensures.answers c.in-Last.is
 
 pub returns-in-Refused : goal.returns-in-Refused
 returns-in-Refused c =
     let a = c.args in
     not_refused 38 a.number a.session (front a.bytes.now) c.put_next_line.ensures.answers
-    c.put_next_line.ensures.short c.enum_told-1.given.1
+    c.put_next_line.ensures.short c.in-Refused.is

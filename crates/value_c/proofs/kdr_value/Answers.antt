@@ -5,11 +5,11 @@ use Rattle.value_c.proofs.kdr_value.Goals as goal
 pub returns-in-Refused : goal.returns-in-Refused
 unfolding outcome
 returns-in-Refused c =
-    rw (← c.value_of.ensures, c.r-1.given.1)
+    rw (← c.value_of.ensures, c.in-Refused.is)
     (record { answers = c.refusal_code.ensures; leaves_numbers = refl; leaves_doubles = refl })
 
 pub returns-in-Is : goal.returns-in-Is
 unfolding outcome
 returns-in-Is c =
     
-    rw (← c.value_of.ensures, c.value-1.given.1) c.tell.ensures
+    rw (← c.value_of.ensures, c.in-Is.is) c.tell.ensures

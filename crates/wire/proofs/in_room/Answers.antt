@@ -1,5 +1,4 @@
 use mathlib.Core.Path.{sym}
-use borrow.Author.Tests.{not-true, not-false}
 use Rattle.wire.proofs.Call.{room-there, room-short, no_room, is-room}
 use Rattle.wire.proofs.in_room.Goals as goal
 

@@ -1,7 +1,6 @@
 use mathlib.Core.Path.{sym}
 use Prim.Native.Nat.{◌+◌}
 use native.Mathlib.Omega.{arith}
-use borrow.Author.Tests.{not-true, not-false}
 use Rattle.wire.proofs.Call.{room-there, room-short, no_room, is-room}
 use Rattle.wire.proofs.parts_in_room.Goals as goal
 

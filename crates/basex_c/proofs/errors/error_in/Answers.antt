@@ -12,7 +12,7 @@ returns-then-status-gt1 c =
     rw (
       le-ltb _ _ c.if-response-lt6.false,
       ← c.find.ensures,
-      c.reply-1.given.1,
+      c.in-Known.is,
       lt-ltb _ _
           c.if-status-gt1.true,
     )
@@ -22,7 +22,7 @@ returns-then-status-eq0 c =
     rw (
       le-ltb _ _ c.if-response-lt6.false,
       ← c.find.ensures,
-      c.reply-1.given.1,
+      c.in-Known.is,
       le-ltb _ _
           c.if-status-gt1.false,
       eq-eqb _ _ c.if-status-eq0.true,
@@ -30,14 +30,14 @@ returns-then-status-eq0 c =
 
 pub returns-in-Unknown : goal.returns-in-Unknown
 returns-in-Unknown c =
-    rw (le-ltb _ _ c.if-response-lt6.false, ← c.find.ensures, c.enum_told-1.given.1)
+    rw (le-ltb _ _ c.if-response-lt6.false, ← c.find.ensures, c.in-Unknown.is)
 
 pub returns-else-status-eq0 : goal.returns-else-status-eq0
 returns-else-status-eq0 c =
     rw (
       le-ltb _ _ c.if-response-lt6.false,
       ← c.find.ensures,
-      c.reply-1.given.1,
+      c.in-Known.is,
       le-ltb _ _
           c.if-status-gt1.false,
       ne_eqb _ _ c.if-status-eq0.false,

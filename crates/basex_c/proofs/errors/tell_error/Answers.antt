@@ -6,16 +6,16 @@ use Rattle.basex_c.proofs.errors.tell_error.Goals as goal
 
 pub returns-then-place-lt2 : goal.returns-then-place-lt2
 returns-then-place-lt2 c =
-    rw c.answer-in-At-1.given.1 (tells_not _ (_ ∷ _ ∷ []) _ c.if-place-lt2.true c.refusal_code-then-place-lt2.ensures)
+    rw c.in-At.is (tells_not _ (_ ∷ _ ∷ []) _ c.if-place-lt2.true c.refusal_code-then-place-lt2.ensures)
 
 pub returns-in-Refused : goal.returns-in-Refused
 returns-in-Refused c =
-    rw c.answer-1.given.1 (record { answers = c.refusal_code.ensures; leaves = refl })
+    rw c.in-Refused.is (record { answers = c.refusal_code.ensures; leaves = refl })
 
 pub returns-in-None : goal.returns-in-None
 returns-in-None c =
-    rw c.enum_told-1.given.1 (tells c.args.place.now [] _ (omega arith) refl)
+    rw c.in-None.is (tells c.args.place.now [] _ (omega arith) refl)
 
 pub returns-else-place-lt2 : goal.returns-else-place-lt2
 returns-else-place-lt2 c =
-    rw c.answer-in-At-1.given.1 (tells c.args.place.now (_ ∷ _ ∷ []) _ c.if-place-lt2.false refl)
+    rw c.in-At.is (tells c.args.place.now (_ ∷ _ ∷ []) _ c.if-place-lt2.false refl)

@@ -11,7 +11,7 @@ returns-then-is_listed c =
     rw (
       lt-ltb _ _ c.if-bytes-at.false,
       ← c.find.ensures,
-      c.reply-1.given.1,
+      c.in-Known.is,
       sym
           c.is_listed.ensures ∙ c.if-is_listed.true,
       ← c.is_full.ensures,
@@ -19,14 +19,14 @@ returns-then-is_listed c =
 
 pub returns-in-Unknown : goal.returns-in-Unknown
 returns-in-Unknown c =
-    rw (lt-ltb _ _ c.if-bytes-at.false, ← c.find.ensures, c.enum_told-1.given.1)
+    rw (lt-ltb _ _ c.if-bytes-at.false, ← c.find.ensures, c.in-Unknown.is)
 
 pub returns-else-is_listed : goal.returns-else-is_listed
 returns-else-is_listed c =
     rw (
       lt-ltb _ _ c.if-bytes-at.false,
       ← c.find.ensures,
-      c.reply-1.given.1,
+      c.in-Known.is,
       sym
           c.is_listed.ensures ∙ c.if-is_listed.false,
     )

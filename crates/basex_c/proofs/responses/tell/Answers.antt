@@ -7,7 +7,7 @@ use Rattle.basex_c.proofs.responses.tell.Goals as goal
 
 pub returns-then-told-lt6 : goal.returns-then-told-lt6
 returns-then-told-lt6 c =
-    rw c.answer-in-Read-1.given.1 (tells_not _ (_ ∷ _ ∷ _ ∷ _ ∷ _ ∷ _ ∷ []) _ c.if-told-lt6.true c.refusal_code-then-told-lt6.ensures)
+    rw c.in-Read.is (tells_not _ (_ ∷ _ ∷ _ ∷ _ ∷ _ ∷ _ ∷ []) _ c.if-told-lt6.true c.refusal_code-then-told-lt6.ensures)
 
 pub bounds-told-1 : goal.bounds-told-1
 bounds-told-1 c =
@@ -31,8 +31,8 @@ bounds-told-5 c =
 
 pub returns-in-Refused : goal.returns-in-Refused
 returns-in-Refused c =
-    rw c.answer-1.given.1 (record { answers = c.refusal_code.ensures; leaves = refl })
+    rw c.in-Refused.is (record { answers = c.refusal_code.ensures; leaves = refl })
 
 pub returns-else-told-lt6 : goal.returns-else-told-lt6
 returns-else-told-lt6 c =
-    rw c.answer-in-Read-1.given.1 (tells c.args.told.now (_ ∷ _ ∷ _ ∷ _ ∷ _ ∷ _ ∷ []) _ c.if-told-lt6.false refl)
+    rw c.in-Read.is (tells c.args.told.now (_ ∷ _ ∷ _ ∷ _ ∷ _ ∷ _ ∷ []) _ c.if-told-lt6.false refl)

@@ -7,7 +7,7 @@ use Rattle.basex_c.proofs.responses.tell_item.Goals as goal
 
 pub returns-then-told-lt3 : goal.returns-then-told-lt3
 returns-then-told-lt3 c =
-    rw c.answer-in-Item-1.given.1 (tells_not _ (_ ∷ _ ∷ _ ∷ []) _ c.if-told-lt3.true c.refusal_code-then-told-lt3.ensures)
+    rw c.in-Item.is (tells_not _ (_ ∷ _ ∷ _ ∷ []) _ c.if-told-lt3.true c.refusal_code-then-told-lt3.ensures)
 
 pub bounds-told-1 : goal.bounds-told-1
 bounds-told-1 c =
@@ -19,12 +19,12 @@ bounds-told-2 c =
 
 pub returns-in-Refused : goal.returns-in-Refused
 returns-in-Refused c =
-    rw c.answer-1.given.1 (record { answers = c.refusal_code.ensures; leaves = refl })
+    rw c.in-Refused.is (record { answers = c.refusal_code.ensures; leaves = refl })
 
 pub returns-in-End : goal.returns-in-End
 returns-in-End c =
-    rw c.enum_told-1.given.1 (tells c.args.told.now [] _ (omega arith) refl)
+    rw c.in-End.is (tells c.args.told.now [] _ (omega arith) refl)
 
 pub returns-else-told-lt3 : goal.returns-else-told-lt3
 returns-else-told-lt3 c =
-    rw c.answer-in-Item-1.given.1 (tells c.args.told.now (_ ∷ _ ∷ _ ∷ []) _ c.if-told-lt3.false c.span.ensures)
+    rw c.in-Item.is (tells c.args.told.now (_ ∷ _ ∷ _ ∷ []) _ c.if-told-lt3.false c.span.ensures)

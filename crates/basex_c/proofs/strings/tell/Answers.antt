@@ -5,12 +5,12 @@ use Rattle.basex_c.proofs.strings.tell.Goals as goal
 
 pub returns-then-told-lt1 : goal.returns-then-told-lt1
 returns-then-told-lt1 c =
-    rw c.place-in-At-1.given.1 (tells_not _ (_ ∷ []) _ c.if-told-lt1.true c.refusal_code-then-told-lt1.ensures)
+    rw c.in-At.is (tells_not _ (_ ∷ []) _ c.if-told-lt1.true c.refusal_code-then-told-lt1.ensures)
 
 pub returns-in-Refused : goal.returns-in-Refused
 returns-in-Refused c =
-    rw c.place-1.given.1 (record { answers = c.refusal_code.ensures; leaves = refl })
+    rw c.in-Refused.is (record { answers = c.refusal_code.ensures; leaves = refl })
 
 pub returns-else-told-lt1 : goal.returns-else-told-lt1
 returns-else-told-lt1 c =
-    rw c.place-in-At-1.given.1 (tells c.args.told.now (_ ∷ []) _ c.if-told-lt1.false c.span.ensures)
+    rw c.in-At.is (tells c.args.told.now (_ ∷ []) _ c.if-told-lt1.false c.span.ensures)

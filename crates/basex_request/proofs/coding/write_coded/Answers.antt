@@ -43,7 +43,7 @@ pub returns-in-Refused : goal.returns-in-Refused
 returns-in-Refused c =
     let a = c.args in
     coded_not a.first.now a.second.now a.third.now a.fourth.now a.kind a.n a.out.now _ (sized c)
-    (sym c.parts_in_room.ensures ∙ c.r-1.given.1)
+    (sym c.parts_in_room.ensures ∙ c.in-Refused.is)
 
 pub returns-in-Count : goal.returns-in-Count
 returns-in-Count c =

@@ -1,6 +1,5 @@
 use mathlib.Core.Path.{◌≡◌, sym, ◌∙◌}
 use lib.ListN.{get_or}
-use borrow.Author.Tests.{not-true, not-false}
 use Rattle.basex.specs.Kinds.{id_allowed}
 use Rattle.basex_response.proofs.Places.{past, ended, not_allowed, texts-refused, with_uri, without_uri}
 use Rattle.basex_response.proofs.items.item_at.Goals as goal
@@ -25,7 +24,7 @@ returns-in-Refused c =
     ∙ c.if-not-id_allowed.false in
     texts-refused a.full a.bytes.now a.at c.if-bytes-at.false
     c.if-id-eq0.false g _ c.item_strings-n.ensures _
-    (sym c.two_at.ensures ∙ c.r-1.given.1)
+    (sym c.two_at.ensures ∙ c.in-Refused.is)
 
 pub returns-then-n-eq2 : goal.returns-then-n-eq2
 returns-then-n-eq2 c =
@@ -34,7 +33,7 @@ returns-then-n-eq2 c =
     ∙ c.if-not-id_allowed.false in
     with_uri a.full a.bytes.now a.at c.if-bytes-at.false
     c.if-id-eq0.false g _ c.item_strings-n.ensures _ _ _
-    (sym c.two_at.ensures ∙ c.first-1.given.1) c.if-n-eq2.true
+    (sym c.two_at.ensures ∙ c.in-At.is) c.if-n-eq2.true
 
 pub returns-else-n-eq2 : goal.returns-else-n-eq2
 returns-else-n-eq2 c =
@@ -43,4 +42,4 @@ returns-else-n-eq2 c =
     ∙ c.if-not-id_allowed.false in
     without_uri a.full a.bytes.now a.at c.if-bytes-at.false
     c.if-id-eq0.false g _ c.item_strings-n.ensures _ _ _
-    (sym c.two_at.ensures ∙ c.first-1.given.1) c.if-n-eq2.false
+    (sym c.two_at.ensures ∙ c.in-At.is) c.if-n-eq2.false

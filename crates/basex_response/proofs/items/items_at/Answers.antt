@@ -22,7 +22,7 @@ pub returns-in-Refused : goal.returns-in-Refused
 returns-in-Refused c =
     let a = c.args in
     let l = c.loop-r in
-    sym (l.invariant.2 ∙ ap (after l.count l.listed) (walk_refused a.full a.bytes.now l.from _ (sym c.item_at.ensures ∙ c.r-1.given.1)))
+    sym (l.invariant.2 ∙ ap (after l.count l.listed) (walk_refused a.full a.bytes.now l.from _ (sym c.item_at.ensures ∙ c.in-Refused.is)))
 
 pub returns-in-End : goal.returns-in-End
 returns-in-End c =
@@ -30,7 +30,7 @@ returns-in-End c =
     let l = c.loop-r in
     let n : l.count + 0 ≡ l.count = omega arith in
     let m : l.listed + 0 ≡ l.listed = omega arith in
-    sym (l.invariant.2 ∙ ap (after l.count l.listed) (walk_end a.full a.bytes.now l.from _ (sym c.item_at.ensures ∙ c.next-1.given.1)) ∙ cc (n, m))
+    sym (l.invariant.2 ∙ ap (after l.count l.listed) (walk_end a.full a.bytes.now l.from _ (sym c.item_at.ensures ∙ c.in-End.is)) ∙ cc (n, m))
 
 pub overflow_add-count : goal.overflow_add-count
 overflow_add-count c =

@@ -14,10 +14,10 @@ pub returns-in-Refused : goal.returns-in-Refused
 returns-in-Refused c =
     let a = c.args in
     error-refused a.reply a.bytes.now a.at c.if-bytes-at.false c.if-status-gt1.false _
-    c.strings_behind-n.ensures _ (sym c.two_at.ensures ∙ c.r-1.given.1)
+    c.strings_behind-n.ensures _ (sym c.two_at.ensures ∙ c.in-Refused.is)
 
 pub returns-in-At : goal.returns-in-At
 returns-in-At c =
     let a = c.args in
     end-told a.reply a.bytes.now a.at c.if-bytes-at.false c.if-status-gt1.false _
-    c.strings_behind-n.ensures _ _ _ (sym c.two_at.ensures ∙ c.first-1.given.1)
+    c.strings_behind-n.ensures _ _ _ (sym c.two_at.ensures ∙ c.in-At.is)

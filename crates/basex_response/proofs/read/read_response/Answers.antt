@@ -11,11 +11,11 @@ pub returns-in-Unknown : goal.returns-in-Unknown
 returns-in-Unknown c =
     let a = c.args in rw
     (some_read a.kind a.bytes.now c.if-bytes-eq0.false
-    ∙ ap (λ f. reading_as f a.bytes.now) (sym c.find.ensures ∙ c.enum_told-1.given.1)) (record { answers = refl; leaves = refl })
+    ∙ ap (λ f. reading_as f a.bytes.now) (sym c.find.ensures ∙ c.in-Unknown.is)) (record { answers = refl; leaves = refl })
 
 pub returns-in-Known : goal.returns-in-Known
 returns-in-Known c =
     let a = c.args in rw
     (some_read a.kind a.bytes.now c.if-bytes-eq0.false
     ∙ ap (λ f. reading_as f a.bytes.now) (sym c.find.ensures
-    ∙ c.reply-1.given.1)) c.read_as.ensures
+    ∙ c.in-Known.is)) c.read_as.ensures

@@ -1,5 +1,5 @@
 use mathlib.Core.Path.{refl, sym, ◌∙◌}
-use borrow.Author.Tests.{lt-leb, le-leb, not-true, not-false}
+use borrow.Author.Tests.{lt-leb, le-leb}
 use Rattle.basex_response.proofs.write.end_allowed.Goals as goal
 
 pub returns-then-status-gt1 : goal.returns-then-status-gt1

@@ -43,9 +43,9 @@ put_last-requires c =
 pub returns-in-Refused : goal.returns-in-Refused
 returns-in-Refused c =
     let a = c.args in
-    let e = sym c.end_room-room.ensures ∙ c.room-1.given.1 in
+    let e = sym c.end_room-room.ensures ∙ c.in-Refused.is in
     record {
-      answers = sym c.room-1.given.1 ∙ c.end_room-room.ensures;
+      answers = sym c.in-Refused.is ∙ c.end_room-room.ensures;
       leaves = sym (put_at_not a.out.now a.at (parts c)
           (refused-short (length a.out.now) a.at (length (parts c)) _ e).1);
     }
@@ -54,7 +54,7 @@ pub returns-in-Count : goal.returns-in-Count
 returns-in-Count c =
     let a = c.args in
     record {
-      answers = sym c.room-in-Count-1.given.1
+      answers = sym c.in-Count.is
           ∙ c.end_room-room.ensures;
       leaves = both a.out.now a.at (first c)
           (second c) _ (fits c)

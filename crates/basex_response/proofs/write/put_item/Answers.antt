@@ -73,9 +73,9 @@ returns-in-Refused c =
     let a = c.args in
     let k = sizes c in
     let n = (refused-short (length a.out.now) a.at (1 + c.size_if-first.result + c.size_if-second.result + 0) _
-    (sym c.parts_in_room-room.ensures ∙ c.room-1.given.1)).1 in
+    (sym c.parts_in_room-room.ensures ∙ c.in-Refused.is)).1 in
     record {
-      answers = sym c.room-1.given.1 ∙ c.parts_in_room-room.ensures ∙ ap (in_room (length a.out.now) a.at) (sym k);
+      answers = sym c.in-Refused.is ∙ c.parts_in_room-room.ensures ∙ ap (in_room (length a.out.now) a.at) (sym k);
       leaves = sym (put_at_not a.out.now a.at (item_parts a.uris a.id a.uri.now a.text.now) (omega arith));
     }
 
@@ -84,7 +84,7 @@ returns-in-Count c =
     let a = c.args in
     let k = sizes c in
     record {
-      answers = sym c.room-in-Count-1.given.1
+      answers = sym c.in-Count.is
           ∙ c.parts_in_room-room.ensures
           ∙ ap (in_room (length a.out.now) a.at) (sym k);
       leaves = last (uri-put c) c.put_string_if.ensures.leaves

@@ -9,21 +9,21 @@ overflow_add-result c =
     let a = c.args in
     let w = c.write_string.ensures in
     let f = (present-put a.out.now a.at a.text.now a.present c.if-present.true
-    c.requires _ (sym w.answers ∙ c.n-1.given.1) w.leaves).1 in
+    c.requires _ (sym w.answers ∙ c.in-Count.is) w.leaves).1 in
     omega arith
 
 pub returns-in-Refused : goal.returns-in-Refused
 returns-in-Refused c =
     let a = c.args in
     absurd (never_refused a.out.now a.at a.text.now a.present c.if-present.true
-    c.requires _ (sym c.write_string.ensures.answers ∙ c.enum_told-1.given.1))
+    c.requires _ (sym c.write_string.ensures.answers ∙ c.in-Refused.is))
 
 pub returns-in-Count : goal.returns-in-Count
 returns-in-Count c =
     let a = c.args in
     let w = c.write_string.ensures in
     (present-put a.out.now a.at a.text.now a.present c.if-present.true
-    c.requires _ (sym w.answers ∙ c.n-1.given.1) w.leaves).0
+    c.requires _ (sym w.answers ∙ c.in-Count.is) w.leaves).0
 
 pub returns-else-present : goal.returns-else-present
 returns-else-present c =

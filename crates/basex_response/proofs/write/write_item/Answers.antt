@@ -3,7 +3,6 @@ use mathlib.Core.Bool.{Bool}
 use Prim.Native.Nat.{ℕ}
 use lib.Dec.{eqb}
 use lib.ListN.{length}
-use borrow.Author.Tests.{not-true, not-false}
 use Rattle.basex.specs.Kinds.{is_full, has_uri, item_strings}
 use Rattle.basex_response.specs.Writing.{item_written}
 use Rattle.basex_response.proofs.Writes.{uri-told, refused_writes, put_writes, item-bytes, item-answer, item-no-place}
@@ -18,13 +17,13 @@ uris c = ap (λ (n : ℕ). eqb n 2) (c.item-strings.ensures ∙ ap
 pub returns-then-not-is_listed : goal.returns-then-not-is_listed
 unfolding item_written
 returns-then-not-is_listed c =
-    rw (sym c.find.ensures ∙ c.reply-1.given.1)
+    rw (sym c.find.ensures ∙ c.in-Known.is)
     (rw (sym c.is_listed.ensures ∙ c.if-not-is_listed.true) (record { answers = refl; leaves = refl }))
 
 pub returns-then-not-id_allowed : goal.returns-then-not-id_allowed
 unfolding item_written
 returns-then-not-id_allowed c =
-    rw (sym c.find.ensures ∙ c.reply-1.given.1)
+    rw (sym c.find.ensures ∙ c.in-Known.is)
     (rw (
       sym c.is_listed.ensures ∙ c.if-not-is_listed.false,
       sym c.id_allowed.ensures
@@ -39,7 +38,7 @@ returns-then-not-has_place c =
     refused_writes _ _ a.out.now a.at _
     (item-no-place (length a.out.now) a.at a.kind a.id _ _ a.uri.now a.text.now
     (sym c.find.ensures
-    ∙ c.reply-1.given.1) _ u
+    ∙ c.in-Known.is) _ u
     (sym c.is_listed.ensures ∙ c.if-not-is_listed.false)
     (sym c.id_allowed.ensures ∙ c.if-not-id_allowed.false)
     (sym c.has_place.ensures ∙ c.if-not-has_place.true))
@@ -47,7 +46,7 @@ returns-then-not-has_place c =
 pub returns-in-Unknown : goal.returns-in-Unknown
 unfolding item_written
 returns-in-Unknown c =
-    rw (sym c.find.ensures ∙ c.enum_told-1.given.1) (record { answers = refl; leaves = refl })
+    rw (sym c.find.ensures ∙ c.in-Unknown.is) (record { answers = refl; leaves = refl })
 
 pub returns-else-not-has_place : goal.returns-else-not-has_place
 unfolding item_written
@@ -55,7 +54,7 @@ returns-else-not-has_place c =
     let a = c.args in
     let u = uris c in
     let k = sym c.find.ensures
-    ∙ c.reply-1.given.1 in
+    ∙ c.in-Known.is in
     put_writes a.out.now a.at _ _ (item-bytes (length a.out.now) a.at a.kind a.id _ _ a.uri.now a.text.now k _ u) _
     (item-answer (length a.out.now) a.at a.kind a.id _ _ a.uri.now a.text.now k _ u
     (sym c.is_listed.ensures

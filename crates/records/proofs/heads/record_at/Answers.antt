@@ -12,7 +12,7 @@ returns-then-n-at c =
 pub overflow_sub-n : goal.overflow_sub-n
 overflow_sub-n c =
     let a = c.args in
-    let w = head_fits a.bytes.now a.at c.judge_head.ensures.bounded c.side-1.given.1 in
+    let w = head_fits a.bytes.now a.at c.judge_head.ensures.bounded c.in-Record.is in
     omega arith
 
 pub returns-then-n-start : goal.returns-then-n-start
@@ -20,16 +20,16 @@ returns-then-n-start c =
     
     let a = c.args in
     next-cut a.bytes.now a.at c.if-n-at.false
-    (sym c.judge_head.ensures.answers ∙ c.side-1.given.1) c.if-n-start.true
+    (sym c.judge_head.ensures.answers ∙ c.in-Record.is) c.if-n-start.true
 
 pub returns-in-Damaged : goal.returns-in-Damaged
 returns-in-Damaged c =
     let a = c.args in
-    next-bad a.bytes.now a.at c.if-n-at.false (sym c.judge_head.ensures.answers ∙ c.enum_told-1.given.1)
+    next-bad a.bytes.now a.at c.if-n-at.false (sym c.judge_head.ensures.answers ∙ c.in-Damaged.is)
 
 pub returns-else-n-start : goal.returns-else-n-start
 returns-else-n-start c =
     
     let a = c.args in
     next-whole a.bytes.now a.at c.if-n-at.false
-    (sym c.judge_head.ensures.answers ∙ c.side-1.given.1) c.if-n-start.false
+    (sym c.judge_head.ensures.answers ∙ c.in-Record.is) c.if-n-start.false

@@ -7,17 +7,17 @@ use Rattle.records_printed.proofs.answers.answer.Goals as goal
 pub returns-then-count-payload : goal.returns-then-count-payload
 returns-then-count-payload c =
     let a = c.args in
-    let e = ap (λ (s : Stepped). s.answer) (sym c.step-step.ensures) ∙ c.reading-in-Message-1.given.1 in
+    let e = ap (λ (s : Stepped). s.answer) (sym c.step-step.ensures) ∙ c.in-Message.is in
     rw (lt-ltb _ _ c.if-count-payload.true) at (answer-taken a.session a.side a.payload.now _ _ _ e)
 
 pub returns-in-Refused : goal.returns-in-Refused
 returns-in-Refused c =
     let a = c.args in
-    let e = ap (λ (s : Stepped). s.answer) (sym c.step-step.ensures) ∙ c.reading-1.given.1 in
+    let e = ap (λ (s : Stepped). s.answer) (sym c.step-step.ensures) ∙ c.in-Refused.is in
     rw c.refused_with.ensures (answer-refused a.session a.side a.payload.now _ e)
 
 pub returns-else-count-payload : goal.returns-else-count-payload
 returns-else-count-payload c =
     let a = c.args in
-    let e = ap (λ (s : Stepped). s.answer) (sym c.step-step.ensures) ∙ c.reading-in-Message-1.given.1 in
+    let e = ap (λ (s : Stepped). s.answer) (sym c.step-step.ensures) ∙ c.in-Message.is in
     rw c.step-step.ensures (rw (le-ltb _ _ c.if-count-payload.false) at (answer-taken a.session a.side a.payload.now _ _ _ e))

@@ -9,7 +9,7 @@ put_fields-requires c =
     (
   c.measure-w.ensures.answers,
   (counted-there _ _ _ _
-      (sym c.in_room.ensures ∙ c.count-1.given.1)).1,
+      (sym c.in_room.ensures ∙ c.in-Count.is)).1,
 )
 
 pub returns-in-Refused : goal.returns-in-Refused
@@ -18,11 +18,11 @@ returns-in-Refused c =
     let a = c.args in
     line_not a.number a.session (record_of a.side a.payload.now) _ c.answer-a.ensures _
     c.measure-w.ensures
-    a.out.now a.at (sym c.in_room.ensures ∙ c.refusal-1.given.1)
+    a.out.now a.at (sym c.in_room.ensures ∙ c.in-Refused.is)
 
 pub returns-in-Count : goal.returns-in-Count
 returns-in-Count c =
     
     let a = c.args in
     line-put a.number a.session (record_of a.side a.payload.now) _ c.answer-a.ensures _ c.measure-w.ensures
-    a.out.now a.at (sym c.in_room.ensures ∙ c.count-1.given.1) c.put_fields.ensures
+    a.out.now a.at (sym c.in_room.ensures ∙ c.in-Count.is) c.put_fields.ensures

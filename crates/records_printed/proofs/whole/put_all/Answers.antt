@@ -21,7 +21,7 @@ returns-in-End c =
     
     let a = c.args in
     let l = c.loop-out in
-    let e = next-end a.bytes.now l.at (sym c.record_at.ensures ∙ c.enum_told-1.given.1) in
+    let e = next-end a.bytes.now l.at (sym c.record_at.ensures ∙ c.in-End.is) in
     printing_last a.bytes.now a.out.now l.out l.session l.number l.at l.to l.invariant false _
     (prints-end l.number l.session _ e) c.requires c.put_last_line.ensures.leaves
 
@@ -34,7 +34,7 @@ returns-in-Damaged c =
     
     let a = c.args in
     let l = c.loop-out in
-    let e = next-damaged a.bytes.now l.at (sym c.record_at.ensures ∙ c.enum_told-in-Damaged-1.given.1) in
+    let e = next-damaged a.bytes.now l.at (sym c.record_at.ensures ∙ c.in-Damaged.is) in
     printing_last a.bytes.now a.out.now l.out l.session l.number l.at l.to l.invariant true _
     (prints-damaged l.number l.session _ e) c.requires c.put_last_line-in-Damaged.ensures.leaves
 
@@ -48,7 +48,7 @@ returns-in_default c =
     
     let a = c.args in
     let l = c.loop-out in
-    let f = next-found a.bytes.now l.at (sym c.record_at.ensures ∙ c.side-1.given.1) in
+    let f = next-found a.bytes.now l.at (sym c.record_at.ensures ∙ c.in-Record.is) in
     let x = line_taken a.bytes.now a.out.now l.out l.session l.number l.at l.to l.invariant f c.part-found.ensures
     c.put_line.ensures in
     absurd (⊎_elim (λ w. omega arith) (λ w. omega arith) (rw x.answers at c.in_default.keys2))
@@ -59,10 +59,10 @@ overflow_add-to c =
     
     let a = c.args in
     let l = c.loop-out in
-    let f = next-found a.bytes.now l.at (sym c.record_at.ensures ∙ c.side-1.given.1) in
+    let f = next-found a.bytes.now l.at (sym c.record_at.ensures ∙ c.in-Record.is) in
     let x = line_taken a.bytes.now a.out.now l.out l.session l.number l.at l.to l.invariant f
     c.part-found.ensures c.put_line.ensures in
-    let t = line_known x.answers c.count-1.given.1 in
+    let t = line_known x.answers c.in-Record-put_line.is in
     omega (arith, t.0, x.there)
 
 pub overflow_add-number : goal.overflow_add-number
@@ -78,7 +78,7 @@ overflow_add-at c =
     
     let a = c.args in
     let l = c.loop-out in
-    let f = next-found a.bytes.now l.at (sym c.record_at.ensures ∙ c.side-1.given.1) in
+    let f = next-found a.bytes.now l.at (sym c.record_at.ensures ∙ c.in-Record.is) in
     omega arith
 
 pub loop-out-smaller : goal.loop-out-smaller
@@ -88,7 +88,7 @@ loop-out-smaller c =
     
     let a = c.args in
     let l = c.loop-out in
-    let f = next-found a.bytes.now l.at (sym c.record_at.ensures ∙ c.side-1.given.1) in
+    let f = next-found a.bytes.now l.at (sym c.record_at.ensures ∙ c.in-Record.is) in
     omega arith
 
 pub loop-out-preserved : goal.loop-out-preserved
@@ -98,9 +98,9 @@ loop-out-preserved c =
     
     let a = c.args in
     let l = c.loop-out in
-    let f = next-found a.bytes.now l.at (sym c.record_at.ensures ∙ c.side-1.given.1) in
+    let f = next-found a.bytes.now l.at (sym c.record_at.ensures ∙ c.in-Record.is) in
     let x = line_taken a.bytes.now a.out.now l.out l.session l.number l.at l.to l.invariant f c.part-found.ensures
     c.put_line.ensures in
-    let t = line_known x.answers c.count-1.given.1 in
+    let t = line_known x.answers c.in-Record-put_line.is in
     printing_next a.bytes.now a.out.now l.out l.session l.number l.at l.to l.invariant _ _ _ f t.1 t.0
     c.put_line.auto.out x.leaves

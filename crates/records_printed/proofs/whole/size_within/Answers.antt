@@ -16,7 +16,7 @@ pub returns-in-End : goal.returns-in-End
 returns-in-End c =
     let a = c.args in
     let l = c.loop-side in
-    let e = next-end a.bytes.now l.at (sym c.record_at.ensures ∙ c.enum_told-1.given.1) in
+    let e = next-end a.bytes.now l.at (sym c.record_at.ensures ∙ c.in-End.is) in
     c.with_more.ensures
     ∙ sized_last a.bytes.now a.room l.session l.number l.at l.to l.invariant false _ (prints-end l.number l.session _ e) c.last_length.ensures
 
@@ -24,7 +24,7 @@ pub returns-in-Damaged : goal.returns-in-Damaged
 returns-in-Damaged c =
     let a = c.args in
     let l = c.loop-side in
-    let e = next-damaged a.bytes.now l.at (sym c.record_at.ensures ∙ c.enum_told-in-Damaged-1.given.1) in
+    let e = next-damaged a.bytes.now l.at (sym c.record_at.ensures ∙ c.in-Damaged.is) in
     c.with_more-in-Damaged.ensures
     ∙ sized_last a.bytes.now a.room l.session l.number l.at l.to l.invariant true _ (prints-damaged l.number l.session _ e) c.last_length-in-Damaged.ensures
 
@@ -34,10 +34,10 @@ returns-in-Refused c =
     
     let a = c.args in
     let l = c.loop-side in
-    let f = next-found a.bytes.now l.at (sym c.record_at.ensures ∙ c.side-1.given.1) in
+    let f = next-found a.bytes.now l.at (sym c.record_at.ensures ∙ c.in-Record.is) in
     let n = line_measured l.number l.session f c.part-found.ensures c.answer-a.ensures
     c.measure-w.ensures in
-    sized_not a.bytes.now a.room l.session l.number l.at l.to l.invariant _ _ f n (sym c.with_more-in-Record.ensures ∙ c.refusal-1.given.1)
+    sized_not a.bytes.now a.room l.session l.number l.at l.to l.invariant _ _ f n (sym c.with_more-in-Record.ensures ∙ c.in-Refused.is)
 
 pub overflow_add-number : goal.overflow_add-number
 overflow_add-number c =
@@ -52,7 +52,7 @@ overflow_add-at c =
     
     let a = c.args in
     let l = c.loop-side in
-    let f = next-found a.bytes.now l.at (sym c.record_at.ensures ∙ c.side-1.given.1) in
+    let f = next-found a.bytes.now l.at (sym c.record_at.ensures ∙ c.in-Record.is) in
     omega arith
 
 pub loop-side-smaller : goal.loop-side-smaller
@@ -62,7 +62,7 @@ loop-side-smaller c =
     
     let a = c.args in
     let l = c.loop-side in
-    let f = next-found a.bytes.now l.at (sym c.record_at.ensures ∙ c.side-1.given.1) in
+    let f = next-found a.bytes.now l.at (sym c.record_at.ensures ∙ c.in-Record.is) in
     omega arith
 
 pub loop-side-preserved : goal.loop-side-preserved
@@ -72,8 +72,8 @@ loop-side-preserved c =
     
     let a = c.args in
     let l = c.loop-side in
-    let f = next-found a.bytes.now l.at (sym c.record_at.ensures ∙ c.side-1.given.1) in
+    let f = next-found a.bytes.now l.at (sym c.record_at.ensures ∙ c.in-Record.is) in
     let n = line_measured l.number l.session f c.part-found.ensures c.answer-a.ensures c.measure-w.ensures in
     let v = line-answered l.number l.session f c.part-found.ensures c.answer-a.ensures in
     sized_next a.bytes.now a.room l.session l.number l.at l.to l.invariant _ _ _ f v n
-    (sym c.with_more-in-Record.ensures ∙ c.end-1.given.1)
+    (sym c.with_more-in-Record.ensures ∙ c.in-Count.is)

@@ -5,7 +5,7 @@ use Rattle.sedna_c.proofs.sessions.take.Goals as goal
 
 pub returns-in-Nobody : goal.returns-in-Nobody
 returns-in-Nobody c =
-    rw (← c.sender_of.ensures, c.enum_told-1.given.1)
+    rw (← c.sender_of.ensures, c.in-Nobody.is)
     (record { tells = record { answers = c.refusal_code.ensures; leaves = refl }; leaves_session = refl })
 
 pub returns-in-Is : goal.returns-in-Is

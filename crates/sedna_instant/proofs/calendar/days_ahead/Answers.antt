@@ -7,60 +7,60 @@ use Rattle.sedna_instant.proofs.calendar.days_ahead.Goals as goal
 pub returns-in-1 : goal.returns-in-1
 unfolding months_to
 returns-in-1 c =
-    rw c.in-1.keys1
+    rw c.in-1.is
 
 pub returns-in-2 : goal.returns-in-2
 unfolding months_to
 returns-in-2 c =
-    rw c.in-2.keys2
+    rw c.in-2.is
 
 pub returns-in-3 : goal.returns-in-3
 unfolding months_to
 returns-in-3 c =
-    rw c.in-3.keys3
+    rw c.in-3.is
 
 pub returns-in-4 : goal.returns-in-4
 unfolding months_to
 returns-in-4 c =
-    rw c.in-4.keys4
+    rw c.in-4.is
 
 pub returns-in-5 : goal.returns-in-5
 unfolding months_to
 returns-in-5 c =
-    rw c.in-5.keys5
+    rw c.in-5.is
 
 pub returns-in-6 : goal.returns-in-6
 unfolding months_to
 returns-in-6 c =
-    rw c.in-6.keys6
+    rw c.in-6.is
 
 pub returns-in-7 : goal.returns-in-7
 unfolding months_to
 returns-in-7 c =
-    rw c.in-7.keys7
+    rw c.in-7.is
 
 pub returns-in-8 : goal.returns-in-8
 unfolding months_to
 returns-in-8 c =
-    rw c.in-8.keys8
+    rw c.in-8.is
 
 pub returns-in-9 : goal.returns-in-9
 unfolding months_to
 returns-in-9 c =
-    rw c.in-9.keys9
+    rw c.in-9.is
 
 pub returns-in-10 : goal.returns-in-10
 unfolding months_to
 returns-in-10 c =
-    rw c.in-10.keys10
+    rw c.in-10.is
 
 pub returns-in-11 : goal.returns-in-11
 unfolding months_to
 returns-in-11 c =
-    rw c.in-11.keys11
+    rw c.in-11.is
 
 pub returns-in_default : goal.returns-in_default
 unfolding months_to
 returns-in_default c =
-    let over = passed c.args.month 1 11 (omega arith) c.in_default.rest in
+    let over = passed c.args.month 1 11 (omega arith) c.in_default in
     let last : c.args.month ≡ 12 = omega arith in rw last

@@ -1,4 +1,4 @@
-use borrow.Author.Tests.{lt-ltb, le-ltb, not-true, not-false}
+use borrow.Author.Tests.{lt-ltb, le-ltb}
 use Rattle.sedna_instant.proofs.read.formed.Goals as goal
 
 pub returns-then-not-y : goal.returns-then-not-y

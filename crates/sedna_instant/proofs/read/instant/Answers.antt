@@ -1,6 +1,5 @@
 use mathlib.Core.Path.{sym, ◌∙◌}
 use native.Mathlib.Omega.{arith}
-use borrow.Author.Tests.{not-true, not-false}
 use Rattle.sedna_instant.proofs.Readings.{short, unmarked, unformed, read}
 use Rattle.sedna_instant.proofs.read.instant.Goals as goal
 

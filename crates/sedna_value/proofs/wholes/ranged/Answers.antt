@@ -7,17 +7,17 @@ use Rattle.sedna_value.proofs.wholes.ranged.Goals as goal
 
 pub returns-then-i-least : goal.returns-then-i-least
 returns-then-i-least c =
-    let i : SFits w64 c.n-1.given.0.0 = search rules in
+    let i : SFits w64 c.in-Is.i = search rules in
     let l : SFits w64 c.least.result = search rules in
-    simp (c.n-1.given.1, ← c.least.ensures, compared i l c.if-i-least.true)
+    simp (c.in-Is.is, ← c.least.ensures, compared i l c.if-i-least.true)
 
 pub returns-then-greatest-i : goal.returns-then-greatest-i
 returns-then-greatest-i c =
-    let i : SFits w64 c.n-1.given.0.0 = search rules in
+    let i : SFits w64 c.in-Is.i = search rules in
     let l : SFits w64 c.least.result = search rules in
     let g : SFits w64 c.greatest.result = search rules in
     simp (
-      c.n-1.given.1,
+      c.in-Is.is,
       ← c.least.ensures,
       ← c.greatest.ensures,
       compared i l c.if-i-least.false,
@@ -26,11 +26,11 @@ returns-then-greatest-i c =
 
 pub returns-else-greatest-i : goal.returns-else-greatest-i
 returns-else-greatest-i c =
-    let i : SFits w64 c.n-1.given.0.0 = search rules in
+    let i : SFits w64 c.in-Is.i = search rules in
     let l : SFits w64 c.least.result = search rules in
     let g : SFits w64 c.greatest.result = search rules in
     simp (
-      c.n-1.given.1,
+      c.in-Is.is,
       ← c.least.ensures,
       ← c.greatest.ensures,
       compared i l c.if-i-least.false,
@@ -40,4 +40,4 @@ returns-else-greatest-i c =
 
 pub returns-in-Overflow : goal.returns-in-Overflow
 returns-in-Overflow c =
-    rw c.enum_told-1.given.1
+    rw c.in-Overflow.is

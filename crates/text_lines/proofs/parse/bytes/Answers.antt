@@ -19,14 +19,14 @@ pub returns-in-Not : goal.returns-in-Not
 returns-in-Not c =
     let f = c.front-w in
     refuses (worded_none c.loop-at.invariant.1 f.result.now (omega arith) f.ensures.0
-    (lost _ c.word.ensures c.enum_told-1.given.1))
+    (lost _ c.word.ensures c.in-Not.is))
 
 pub loop-at-preserved : goal.loop-at-preserved
 loop-at-preserved c =
     let f = c.front-w in (
       search rules,
       worded_next c.loop-at.invariant.1 f.result.now (omega arith) f.ensures.0
-          (found _ c.word.ensures c.m-1.given.1),
+          (found _ c.word.ensures c.in-Bytes.is),
     )
 
 pub returns : goal.returns

@@ -6,14 +6,14 @@ use Rattle.text_lines.proofs.parse.decimal_byte.Goals as goal
 pub returns-then-n-gt255 : goal.returns-then-n-gt255
 unfolding decimal_byte_of in_byte
 returns-then-n-gt255 c =
-    simp (sym c.decimal.ensures, c.n-1.given.1, lt-ltb _ _ c.if-n-gt255.true)
+    simp (sym c.decimal.ensures, c.in-Is.is, lt-ltb _ _ c.if-n-gt255.true)
 
 pub returns-in-Not : goal.returns-in-Not
 unfolding decimal_byte_of in_byte
 returns-in-Not c =
-    simp (sym c.decimal.ensures, c.enum_told-1.given.1)
+    simp (sym c.decimal.ensures, c.in-Not.is)
 
 pub returns-else-n-gt255 : goal.returns-else-n-gt255
 unfolding decimal_byte_of in_byte
 returns-else-n-gt255 c =
-    simp (sym c.decimal.ensures, c.n-1.given.1, le-ltb _ _ c.if-n-gt255.false)
+    simp (sym c.decimal.ensures, c.in-Is.is, le-ltb _ _ c.if-n-gt255.false)

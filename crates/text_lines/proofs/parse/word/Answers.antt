@@ -8,30 +8,30 @@ pub returns-then-digits-text : goal.returns-then-digits-text
 returns-then-digits-text c =
     let a = c.args in
     word_plain a.out.now a.n a.text.now c.front-digits.ensures.0
-    (found _ c.pairs.ensures c.m-1.given.1) c.if-digits-text.true
+    (found _ c.pairs.ensures c.in-Bytes.is) c.if-digits-text.true
 
 pub returns-in-Not : goal.returns-in-Not
 returns-in-Not c =
     let a = c.args in
     refuses (word_lost a.out.now a.n a.text.now c.front-digits.ensures.0
-    (lost _ c.pairs.ensures c.enum_told-1.given.1))
+    (lost _ c.pairs.ensures c.in-Not.is))
 
 pub returns-in-Not-decimal : goal.returns-in-Not-decimal
 returns-in-Not-decimal c =
     let a = c.args in
-    let e = ap decimal_of (sym c.behind.ensures) ∙ sym c.decimal.ensures ∙ c.enum_told-in-Not-decimal-1.given.1 in
+    let e = ap decimal_of (sym c.behind.ensures) ∙ sym c.decimal.ensures ∙ c.in-Not-decimal.is in
     refuses (word_uncounted a.out.now a.n a.text.now
     c.front-digits.ensures.0
     (found _ c.pairs.ensures
-    c.m-1.given.1) c.if-digits-text.false e)
+    c.in-Bytes.is) c.if-digits-text.false e)
 
 pub returns-in-Is : goal.returns-in-Is
 returns-in-Is c =
     let a = c.args in
     let e = ap decimal_of (sym c.behind.ensures) ∙ sym
-    c.decimal.ensures ∙ c.times-1.given.1 in
+    c.decimal.ensures ∙ c.in-Is.is in
     word_counted a.out.now a.n a.text.now
     c.front-digits.ensures.0
     (found _ c.pairs.ensures
-    c.m-1.given.1)
+    c.in-Bytes.is)
     c.if-digits-text.false e c.repeat.ensures
