@@ -11,7 +11,8 @@
 
 ghost use Rattle.std.specs.Prelude.{◌<◌};
 
-use libc::STDIN_FILENO;
+use std::io::{Read, Stdin};
+use text_lines::input::STDIN;
 use text_lines::print::{decimal, hex, say};
 
 fn wide(b: u8) -> usize
@@ -43,28 +44,26 @@ enum Start {
 
 // The first read tells a failure from the input's end. Where a later one fails, fewer bytes came
 // than were asked for, as where the input ends: the record is cut.
-fn read_head(head: &mut [u8]) -> Start {
-    let first = libc::read(STDIN_FILENO, head);
-    if first < 0 {
+fn read_head(mut input: Stdin, head: &mut [u8]) -> Start {
+    let Ok(got) = input.read(head) else {
         return Start::Damaged;
-    }
-    let got = io::count(first, head);
+    };
     if got == 0 {
         return Start::End;
     }
     if got == head.len() {
         return Start::Head;
     }
-    if io::read_full(STDIN_FILENO, &mut head[got..]) < head.len() - got {
+    if io::read_full(STDIN, &mut head[got..]) < head.len() - got {
         return Start::Damaged;
     }
     Start::Head
 }
 
 // One record: whether there may be another.
-fn record(number: u64, space: &mut [u8], out: &mut [u8]) -> bool {
+fn record(input: Stdin, number: u64, space: &mut [u8], out: &mut [u8]) -> bool {
     let mut head = [0u8; 5];
-    match read_head(&mut head) {
+    match read_head(input, &mut head) {
         Start::Head => {}
         Start::Damaged => return damaged(),
         Start::End => {
@@ -77,19 +76,19 @@ fn record(number: u64, space: &mut [u8], out: &mut [u8]) -> bool {
         return damaged();
     }
     let bytes = &mut space[0..n];
-    if io::read_full(STDIN_FILENO, bytes) < n {
+    if io::read_full(STDIN, bytes) < n {
         return damaged();
     }
     line(number, head[0], bytes, out);
     true
 }
 
-fn main() {
+fn main(rt: HostRuntime) {
     let mut space = io::large_buffer();
     // decoded texts are never longer than the bytes they are read from
     let mut out = io::large_buffer();
     let mut number: u64 = 1;
-    while number < u64::MAX && record(number, &mut space, &mut out) {
+    while number < u64::MAX && record(rt.stdin(), number, &mut space, &mut out) {
         number += 1;
     }
 }

@@ -21,7 +21,6 @@ mod hand;
 mod join;
 mod text;
 
-use libc::STDIN_FILENO;
 use text::fill;
 use text_lines::cut::{behind, front, same};
 use text_lines::input::asks;
@@ -44,7 +43,7 @@ fn main() {
     let mut pattern = [0u8; 65538];
     let mut buffer = io::large_buffer();
     fill(&mut pattern);
-    let n = io::read_full(STDIN_FILENO, &mut buffer);
+    let n = io::read_full(text_lines::input::STDIN, &mut buffer);
     let text = &buffer[..n];
     let mut at = 0;
     while at < text.len() {

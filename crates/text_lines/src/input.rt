@@ -1,5 +1,7 @@
 // Reading standard input, line by line.
-use libc::STDIN_FILENO;
+
+// Standard input's file descriptor.
+pub const STDIN: i32 = 0;
 
 // Reads one line with its end, byte by byte so that nothing behind it is taken from the input.
 // Answers how many bytes; 0 at the end of the input.
@@ -7,7 +9,7 @@ pub fn line(buffer: &mut [u8]) -> usize {
     let mut n = 0;
     while n < buffer.len() {
         let end = n + 1;
-        if io::read_full(STDIN_FILENO, &mut buffer[n..end]) == 0 {
+        if io::read_full(STDIN, &mut buffer[n..end]) == 0 {
             return n;
         }
         if buffer[n] == b'\n' {

@@ -1,13 +1,15 @@
 // Printing to standard output: text, numbers, bytes in hexadecimal, strings.
-use libc::STDOUT_FILENO;
 use wire::first;
 
+// Standard output's file descriptor.
+pub const STDOUT: i32 = 1;
+
 pub fn say(text: &[u8]) {
-    io::write_all(STDOUT_FILENO, text);
+    io::write_all(STDOUT, text);
 }
 
 pub fn decimal(n: u64) {
-    io::print_decimal(STDOUT_FILENO, n);
+    io::print_decimal(STDOUT, n);
 }
 
 // How far below 0 a number is, the least one too.

@@ -7,11 +7,15 @@ ghost use Rattle.std.specs.Prelude.{◌≤◌, length};
 ghost use Rattle.records.specs.Record.{front};
 ghost use Rattle.transcript.specs.inner.Program.{Within, OfRecord, GoesOn};
 
-use libc::{STDIN_FILENO, STDOUT_FILENO};
 use records::Head;
 use records_printed::{CountedLine, LONGEST_LINE};
 use session::Session;
+use std::io::{Read, Stdin};
 use wire::{Counted, Place};
+
+// The file descriptors of standard input and output.
+const STDIN: i32 = 0;
+const STDOUT: i32 = 1;
 
 // How many bytes were read, 0 at the input's end; or the first read failed.
 #[derive(Clone, Copy)]
@@ -30,34 +34,32 @@ enum Progress {
 
 // The first read tells a failure from the input's end. Where a later one fails, fewer bytes came
 // than were asked for, as where the input ends: the record is cut.
-fn read_head(head: &mut [u8]) -> Input
+fn read_head(mut input: Stdin, head: &mut [u8]) -> Input
     ensures { Within (length head.old) result }
 {
-    let first = libc::read(STDIN_FILENO, head);
-    if first < 0 {
+    let Ok(got) = input.read(head) else {
         return Input::Failed;
-    }
-    let got = io::count(first, head);
+    };
     if got == 0 || got == head.len() {
         return Input::Bytes(got);
     }
-    Input::Bytes(got + io::read_full(STDIN_FILENO, &mut head[got..]))
+    Input::Bytes(got + io::read_full(STDIN, &mut head[got..]))
 }
 
 // Reads a record into the buffer, which has room for any: its head, then the payload that the head
 // tells.
-fn read_record(buffer: &mut [u8]) -> Input
+fn read_record(input: Stdin, buffer: &mut [u8]) -> Input
     requires { 10254 ≤ length buffer.old }
     ensures { OfRecord buffer.new result }
 {
-    let Input::Bytes(got) = read_head(&mut buffer[..6]) else {
+    let Input::Bytes(got) = read_head(input, &mut buffer[..6]) else {
         return Input::Failed;
     };
     match records::judge_head(&buffer[..got]) {
         Head::Damaged => Input::Bytes(got),
         Head::Record { len, .. } => {
             let end = 6 + len;
-            Input::Bytes(6 + io::read_full(STDIN_FILENO, &mut buffer[6..end]))
+            Input::Bytes(6 + io::read_full(STDIN, &mut buffer[6..end]))
         }
     }
 }
@@ -71,7 +73,7 @@ fn say(text: &[u8], count: usize) -> bool {
             len: count,
         },
     );
-    io::write_all(STDOUT_FILENO, said)
+    io::write_all(STDOUT, said)
 }
 
 // Prints what there is to print for what was read of a record. Where a line cannot be written,
@@ -106,12 +108,12 @@ fn say_damaged(session: Session) {
 
 // A proved loop has to end: this one ends without a last line behind 2^64 - 2 records, which no
 // input has.
-fn main() {
+fn main(rt: HostRuntime) {
     let mut buffer = [0u8; records::LONGEST_RECORD];
     let mut session = Session::FRESH;
     let mut number: u64 = 1;
     while number < u64::MAX {
-        let Input::Bytes(got) = read_record(&mut buffer) else {
+        let Input::Bytes(got) = read_record(rt.stdin(), &mut buffer) else {
             say_damaged(session);
             return;
         };

@@ -12,7 +12,6 @@
 
 mod answer;
 
-use libc::STDIN_FILENO;
 use text_lines::cut::{behind, front};
 use text_lines::input::asks;
 use text_lines::print::say;
@@ -41,7 +40,7 @@ fn lines(text: &[u8]) {
 
 fn main() {
     let mut buffer = io::large_buffer();
-    let n = io::read_full(STDIN_FILENO, &mut buffer);
+    let n = io::read_full(text_lines::input::STDIN, &mut buffer);
     lines(&buffer[..n]);
     if n == 65536 {
         say(b"  = lines behind the first 65,536 bytes are not read\n");

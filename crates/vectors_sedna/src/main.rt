@@ -16,7 +16,6 @@ mod ask;
 mod fields;
 mod written;
 
-use libc::STDIN_FILENO;
 use sedna::Side;
 use text_lines::cut::{behind, front, same};
 use text_lines::input::asks;
@@ -70,7 +69,7 @@ fn lines(text: &[u8]) {
 
 fn main() {
     let mut buffer = io::large_buffer();
-    let n = io::read_full(STDIN_FILENO, &mut buffer);
+    let n = io::read_full(text_lines::input::STDIN, &mut buffer);
     lines(&buffer[..n]);
     if n == 65536 {
         say(b"  = lines behind the first 65,536 bytes are not read\n");

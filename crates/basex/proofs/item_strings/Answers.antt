@@ -18,11 +18,6 @@ unfolding has_uri
 returns-in-82 c =
     rw (c.if-full.true, c.in-82.is) refl
 
-pub returns-in_default : goal.returns-in_default
-unfolding has_uri
-returns-in_default c =
-    simp (c.if-full.true, ne_eqb _ _ c.in_default.0.0.1, ne_eqb _ _ c.in_default.0.1, ne_eqb _ _ c.in_default.1)
-
 pub returns-else-full : goal.returns-else-full
 unfolding has_uri
 returns-else-full c =

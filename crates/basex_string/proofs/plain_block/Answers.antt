@@ -12,20 +12,6 @@ pub loop-i-init : goal.loop-i-init
 loop-i-init c =
     (search rules, block_none (run (drop c.args.at c.args.s.now)))
 
-pub loop-i-preserved : goal.loop-i-preserved
-loop-i-preserved c =
-    (
-  omega arith,
-  ⊎_elim
-      (λ w. w.1 ∙ block_special c.args.s.now c.args.at
-      c.loop-i.i c.loop-i.plain (omega arith) c.loop-i.invariant.1
-      (sym c.is_special.ensures ∙ w.0.taken))
-      (λ w. w.1 ∙ block_plain c.args.s.now c.args.at
-      c.loop-i.i c.loop-i.plain (omega arith) c.loop-i.invariant.1
-      (sym c.is_special.ensures ∙ w.0.left))
-      c.if-is_special.branch,
-)
-
 pub returns : goal.returns
 returns c =
     let e : c.loop-i.i ≡ 16 = omega arith in rw e at c.loop-i.invariant.1

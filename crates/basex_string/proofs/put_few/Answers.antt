@@ -28,45 +28,13 @@ pub shape_of-out-then-escaped : goal.shape_of-out-then-escaped
 shape_of-out-then-escaped c =
     simp length-set c.loop-count.invariant.0
 
-pub returns-then-escaped : goal.returns-then-escaped
-returns-then-escaped c =
-    let r = c.opens-escaped.result in
-    let q : c.if-not-escaped.count ≡ c.loop-count.count + if r 0 1 =
-    ⊎_elim (λ w. rw (not-true r w.0.taken) w.1) (λ w. rw (not-false r w.0.left) (let e = w.1 in omega arith)) c.if-not-escaped.branch in
-    let m = midst_next c.loop-count.invariant.1.1 c.loop-count-test.true
-    c.opens-escaped.ensures q in
-    let t = midst_stop m (c.loop-count.i + 1 - 1) (m.back c.if-escaped.true) in
-    let z = one_at_most r in
-    record { some = omega arith; adds = t.0; makes = t.1 }
-
 pub shape_of-out-then-i-from-eq16 : goal.shape_of-out-then-i-from-eq16
 shape_of-out-then-i-from-eq16 c =
     simp length-set c.loop-count.invariant.0
 
-pub returns-then-i-from-eq16 : goal.returns-then-i-from-eq16
-returns-then-i-from-eq16 c =
-    let r = c.opens-escaped.result in
-    let q : c.if-not-escaped.count ≡ c.loop-count.count + if r 0 1 =
-    ⊎_elim (λ w. rw (not-true r w.0.taken) w.1) (λ w. rw (not-false r w.0.left) (let e = w.1 in omega arith)) c.if-not-escaped.branch in
-    let m = midst_next c.loop-count.invariant.1.1 c.loop-count-test.true
-    c.opens-escaped.ensures q in
-    let t = midst_stop m (c.loop-count.i + 1)
-    (ap (λ (e : Bool). text_read (scan e (drop (c.loop-count.i + 1)
-    c.args.bytes.now))) (sym c.if-escaped.false)) in
-    let z = one_at_most r in
-    record { some = omega arith; adds = t.0; makes = t.1 }
-
 pub loop-count-smaller : goal.loop-count-smaller
 loop-count-smaller c =
     let h = midst_here c.loop-count.invariant.1.1 c.loop-count-test.true in omega arith
-
-pub loop-count-preserved : goal.loop-count-preserved
-loop-count-preserved c =
-    let r = c.opens-escaped.result in
-    let q : c.if-not-escaped.count ≡ c.loop-count.count + if r 0 1 =
-    ⊎_elim (λ w. rw (not-true r w.0.taken) w.1) (λ w. rw (not-false r w.0.left) (let e = w.1 in omega arith)) c.if-not-escaped.branch in
-    let m = midst_next c.loop-count.invariant.1.1 c.loop-count-test.true c.opens-escaped.ensures q in
-    (simp length-set c.loop-count.invariant.0, (omega arith, m))
 
 pub shape_of-out : goal.shape_of-out
 shape_of-out c =

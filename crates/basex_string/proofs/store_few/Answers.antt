@@ -27,40 +27,6 @@ overflow_add-to c =
     let n = string-length (drop i s) in
     omega arith
 
-pub bounds-out-to-in-loop-i : goal.bounds-out-to-in-loop-i
-bounds-out-to-in-loop-i c =
-    let s = c.args.part.now in
-    let i = c.loop-i.i in
-    let n = string-length (drop i s) in
-    let e = sym c.is_special.ensures in
-    let k : c.if-is_special.to + 1 ≤ c.loop-i.to + length (string (drop i s)) =
-    ⊎_elim (λ w. let l = ap length (string-special s i c.loop-i-test.true (e ∙ w.0.taken)) in omega arith) (λ w. omega arith) c.if-is_special.branch in
-    simp length-set (omega arith)
-
-pub overflow_add-to-in-loop-i : goal.overflow_add-to-in-loop-i
-overflow_add-to-in-loop-i c =
-    let s = c.args.part.now in
-    let i = c.loop-i.i in
-    let n = string-length (drop i s) in
-    let e = sym c.is_special.ensures in
-    ⊎_elim
-    (λ w. let l = ap length (string-special s i c.loop-i-test.true (e ∙ w.0.taken)) in omega arith)
-    (λ w. omega arith)
-    c.if-is_special.branch
-
-pub loop-i-preserved : goal.loop-i-preserved
-loop-i-preserved c =
-    let s = c.args.part.now in
-    let i = c.loop-i.i in
-    let n = string-length (drop i s) in
-    let h = c.loop-i-test.true in
-    let e = sym c.is_special.ensures in
-    let v = c.loop-i.invariant in
-    ⊎_elim
-    (λ w. let f = string-special s i h (e ∙ w.0.taken) in let l = ap length f in (simp length-set v.0, (omega arith, (omega arith, ahead-pair c.if-is_special.to f v.1.1.1 w.1))))
-    (λ w. let f = string-plain s i h (e ∙ w.0.left) in let l = ap length f in (simp length-set v.0, (omega arith, (omega arith, ahead-over c.if-is_special.to f v.1.1.1 w.1))))
-    c.if-is_special.branch
-
 pub bounds-out-to-2 : goal.bounds-out-to-2
 bounds-out-to-2 c =
     let e = ap length (string-end c.args.part.now c.loop-i.i c.loop-i-test.false) in omega arith

@@ -12,9 +12,3 @@ unfolding joined_as
 returns-then-in_order c =
     
     simp (← c.takes.ensures, c.if-takes.true, c.if-a.false, ← c.in_order.ensures, c.if-in_order.true, c.fitted.ensures)
-
-pub returns : goal.returns
-unfolding joined_as
-returns c =
-    ⊎_elim (λ w. simp (← c.takes.ensures, w.0.taken, w.1.left, ← w.2.ensures, w.3.left, c.refused-2.ensures))
-    (λ w. simp (← c.takes.ensures, w.left, c.refused-2.ensures)) c.if-takes.branch

@@ -12,9 +12,3 @@ returns-then-n-lt922337203685477580 c =
 pub returns-then-digit-le8 : goal.returns-then-digit-le8
 returns-then-digit-le8 c =
     let a = c.args in sym (grown_small a.n a.digit (omega arith))
-
-pub returns : goal.returns
-returns c =
-    let a = c.args in
-    let h : 9223372036854775808 < a.n * 10 + a.digit = ⊎_elim (λ w. omega arith) (λ w. omega arith) c.if-n-eq922337203685477580.branch in
-    sym (grown_great a.n a.digit h)

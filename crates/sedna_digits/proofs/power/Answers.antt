@@ -63,8 +63,3 @@ returns-in-13 c =
 pub returns-in-14 : goal.returns-in-14
 returns-in-14 c =
     rw c.in-14.is
-
-pub returns-in_default : goal.returns-in_default
-returns-in_default c =
-    let e : min c.args.k 15 ≡ 15 = omega (arith, passed c.args.k 0 15 (omega arith) c.in_default) in
-    rw e

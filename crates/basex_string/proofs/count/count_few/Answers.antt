@@ -11,17 +11,6 @@ pub loop-i-init : goal.loop-i-init
 loop-i-init c =
     (search rules, (search rules, omega arith))
 
-pub loop-i-preserved : goal.loop-i-preserved
-loop-i-preserved c =
-    let s = c.args.part.now in
-    let i = c.loop-i.i in
-    let h = c.loop-i-test.true in
-    let e = sym c.is_special.ensures in
-    ⊎_elim
-    (λ w. let k = specials-special s i h (e ∙ w.0.taken) in omega arith)
-    (λ w. let k = specials-plain s i h (e ∙ w.0.left) in omega arith)
-    c.if-is_special.branch
-
 pub returns : goal.returns
 returns c =
     let e = specials-end c.args.part.now c.loop-i.i c.loop-i-test.false in omega arith

@@ -58,9 +58,3 @@ pub returns-in-11 : goal.returns-in-11
 unfolding months_to
 returns-in-11 c =
     rw c.in-11.is
-
-pub returns-in_default : goal.returns-in_default
-unfolding months_to
-returns-in_default c =
-    let over = passed c.args.month 1 11 (omega arith) c.in_default in
-    let last : c.args.month ≡ 12 = omega arith in rw last

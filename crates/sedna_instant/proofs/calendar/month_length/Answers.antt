@@ -18,8 +18,3 @@ returns-then-month-gt12 c =
 pub returns-in-4 : goal.returns-in-4
 returns-in-4 c =
     ⊎_elim (λ e. rw e) (⊎_elim (λ e. rw e) (⊎_elim (λ e. rw e) (λ e. rw e))) c.in-4.is
-
-pub returns-in_default : goal.returns-in_default
-returns-in_default c =
-    let a = c.args in
-    sym (long-month a.year a.month c.if-month-gt12.false c.in_default.0.1 c.if-month-eq2.false c.in_default.1)
