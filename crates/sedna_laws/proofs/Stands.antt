@@ -42,10 +42,10 @@ module _ (side : Side) (s t : List ℕ) where
   due-stands c (Due.other_side l sender shape listed differ) = Due.other_side (longer l) sender shape (rw (int-stands 0 (omega arith)) listed) differ
   due-stands c (Due.too_long l shape listed more) = Due.too_long (longer l) shape (rw (int-stands 0 (omega arith)) listed) (rw (int-stands 4 (omega arith)) more)
   due-stands c (Due.no_body shape n h l) = absurd (c refl)
-  due-stands c (Due.in_Body r shape n h l e) =
+  due-stands c (Due.in_body r shape n h l e) =
       let long : 8 ≤ length s = h.long in
       let body : take n (drop 8 (s ++ t)) ≡ take n (drop 8 s) = rw (drop-append-le 8 s t long, take-append-le n (drop 8 s) t (omega (arith, length-drop 8 s))) in
-      Due.in_Body r shape n (head_stands h) (omega (arith, length-append s t)) (subst (λ (b : List ℕ). InBody shape b r) (sym body) e)
+      Due.in_body r shape n (head_stands h) (omega (arith, length-append s t)) (subst (λ (b : List ℕ). InBody shape b r) (sym body) e)
 
 pub refusal_stands : (side : Side) (s t : List ℕ) → IsBytes (s ++ t) → (r : Refusal) → ¬ (r ≡ MoreBytes) → reading side s ≡ Answer.refused r → reading side (s ++ t) ≡ Answer.refused r
 refusal_stands side s t h r c e = (refused_exact side (s ++ t) h r).1 (due-stands side s t c ((refused_exact side s (bytes-front s t h) r).0 e))

@@ -20,7 +20,3 @@ no-major (places.Item class kind url part) k = refl
 pub returns-in-Session : goal.returns-in-Session
 returns-in-Session c =
     simp c.in-Session.is
-
-pub returns-in_default : goal.returns-in_default
-returns-in_default c =
-    no-major c.args.places c.in_default.keys2

@@ -58,3 +58,8 @@ pub returns-in-11 : goal.returns-in-11
 unfolding months_to
 returns-in-11 c =
     rw c.in-11.is
+
+pub returns-in_default : goal.returns-in_default
+unfolding months_to
+returns-in_default c =
+    let last : c.args.month ≡ 12 = omega arith in rw last

@@ -28,11 +28,3 @@ unfolding boolean_of
 returns-else-is_false c =
     let h : length c.args.s.now ≡ 4 → ⊥ = λ e. omega arith in
     simp (ne_eqb _ _ c.if-n-eq1.false, ne_eqb _ _ h, eq-eqb _ _ c.if-n-eq5.true, ← c.is_false.ensures, c.if-is_false.false)
-
-pub returns-else-n-eq5 : goal.returns-else-n-eq5
-unfolding boolean_of
-returns-else-n-eq5 c =
-    ⊎_elim
-    (λ w. simp (ne_eqb _ _ c.if-n-eq1.false, eq-eqb _ _ w.0.taken, ← w.1.ensures, w.2.left))
-    (λ w. simp (ne_eqb _ _ c.if-n-eq1.false, ne_eqb _ _ w.left, ne_eqb _ _ c.if-n-eq5.false))
-    c.if-n-eq4.branch

@@ -28,10 +28,3 @@ overflow_sub-result-2 c =
     
     let a = c.args in
     run-from a.s.now a.at c.digits-run.result c.digits-run.ensures
-
-pub returns : goal.returns
-returns c =
-    
-    let a = c.args in
-    plain-is a.s.now a.at c.digits-run.result c.digits-run.ensures
-    (⊎_elim (λ u. ne_eqb _ _ u.2.left) (λ u. no-point a.s.now c.digits-run.result.end u.left) c.if-point-s.branch)

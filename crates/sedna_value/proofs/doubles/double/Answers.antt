@@ -15,36 +15,7 @@ returns-then-d-eq0-2 c =
     ∙ no-digits s c.behind_sign-at.result c.decimal_at-d.result c.behind_sign-at.ensures c.decimal_at-d.ensures
     c.if-d-eq0.true c.if-d-eq0-2.true
 
-pub returns-then-exponent : goal.returns-then-exponent
-returns-then-exponent c =
-    
-    
-    let s = c.args.s.now in
-    more s c.behind_sign-at.result c.decimal_at-d.result c.behind_sign-at.ensures c.decimal_at-d.ensures true
-    (λ z. ⊎_elim (λ w. w.2.left (omega arith)) (λ w. w.left (omega arith)) c.if-d-eq0.branch)
-    c.if-end-s.true (sym c.exponent.ensures ∙ c.if-exponent.true)
-
-pub returns-then-end-s : goal.returns-then-end-s
-returns-then-end-s c =
-    
-    
-    let s = c.args.s.now in
-    more s c.behind_sign-at.result c.decimal_at-d.result c.behind_sign-at.ensures c.decimal_at-d.ensures false
-    (λ z. ⊎_elim (λ w. w.2.left (omega arith)) (λ w. w.left (omega arith)) c.if-d-eq0.branch)
-    c.if-end-s.true (sym c.exponent.ensures ∙ c.if-exponent.false)
-
 pub decided-requires : goal.decided-requires
 decided-requires c =
     
     rw c.decimal_at-d.ensures (decimal-fits c.args.s.now c.behind_sign-at.result)
-
-pub returns : goal.returns
-returns c =
-    
-    
-    let s = c.args.s.now in
-    c.decided.ensures
-    ∙ rw c.byte_at-minus.ensures
-    (alone s c.behind_sign-at.result c.decimal_at-d.result c.behind_sign-at.ensures c.decimal_at-d.ensures
-    (λ z. ⊎_elim (λ w. w.2.left (omega arith)) (λ w. w.left (omega arith)) c.if-d-eq0.branch)
-    c.if-end-s.false)

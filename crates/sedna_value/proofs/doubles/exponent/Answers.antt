@@ -9,23 +9,3 @@ pub returns-then-letter-ne101 : goal.returns-then-letter-ne101
 unfolding exponent_at
 returns-then-letter-ne101 c =
     search (rules, ne_eqb)
-
-pub returns-then-run-start : goal.returns-then-run-start
-unfolding exponent_at
-returns-then-run-start c =
-    
-    
-    
-    let a = c.args in
-    no-digits a.s.now a.at c.behind_sign-start.result c.digits-run.result (⊎_elim (λ w. lower _ w.1.left) (λ w. upper _ w.left) c.if-letter-ne69.branch)
-    c.behind_sign-start.ensures c.digits-run.ensures c.if-run-start.true
-
-pub returns : goal.returns
-unfolding exponent_at
-returns c =
-    
-    
-    
-    let a = c.args in
-    digits_last a.s.now a.at c.behind_sign-start.result c.digits-run.result (⊎_elim (λ w. lower _ w.1.left) (λ w. upper _ w.left) c.if-letter-ne69.branch)
-    c.behind_sign-start.ensures c.digits-run.ensures c.if-run-start.false

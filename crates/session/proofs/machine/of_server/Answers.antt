@@ -154,4 +154,5 @@ returns-in-355 c =
 pub returns-in_default : goal.returns-in_default
 unfolding look_from rows
 returns-in_default c =
-    sym (let a = c.args in others a.i (drop 17 rows) [] 17 a.t1 a.at a.version c.in_default)
+    sym (let a = c.args in others a.i (drop 17 rows) [] 17 a.columns a.at a.version c.in_default.in_default-own.rest)
+
