@@ -1,13 +1,8 @@
-use Prim.Native.Nat.{◌≤◌}
 use native.Mathlib.Omega.{arith}
 use mir.Facts.{to_z-of_z}
 use borrow.Author.Tests.{lt-ltb, le-ltb}
-use Rattle.sedna_instant.specs.inner.Bounds.{SecondsFit}
 use Rattle.sedna_instant.proofs.Seconds.{seconds_fit, formed_fit}
 use Rattle.sedna_instant.proofs.read.timed.Goals as goal
-
-fit : (d : tie.Start) → 1 ≤ d.args.y.number → d.args.y.number ≤ 9999 → SecondsFit d.args.y.number d.args.c d.args.shift
-fit d lo hi = formed_fit d.args.y d.args.c d.args.f d.args.shift d.requires.formed lo hi d.requires.zone
 
 pub returns-then-y : goal.returns-then-y
 returns-then-y c =
@@ -28,7 +23,7 @@ returns-then-f-gt9 c =
 
 pub seconds-seconds-requires : goal.seconds-seconds-requires
 seconds-seconds-requires c =
-    fit c (omega arith) (omega arith)
+    formed_fit c.args.y c.args.c c.args.f c.args.shift c.requires.formed (omega arith) (omega arith) c.requires.zone
 
 pub nanos-nanos-requires : goal.nanos-nanos-requires
 nanos-nanos-requires c =
@@ -45,5 +40,5 @@ returns c =
       le-ltb _ _ c.if-f-gt9.false,
       c.nanos-nanos.ensures,
       c.seconds-seconds.ensures,
-      to_z-of_z (seconds_fit (fit c c.if-y-lt1.false c.if-y-gt9999.false)),
+      to_z-of_z (seconds_fit (formed_fit c.args.y c.args.c c.args.f c.args.shift c.requires.formed c.if-y-lt1.false c.if-y-gt9999.false c.requires.zone)),
     )
