@@ -25,10 +25,6 @@ returns-in-End c =
     printing_last a.bytes.now a.out.now l.out l.session l.number l.at l.to l.invariant false _
     (prints-end l.number l.session _ e) c.requires c.put_last_line.ensures.leaves
 
-pub shape_of-out-in-Damaged : goal.shape_of-out-in-Damaged
-shape_of-out-in-Damaged c =
-    c.put_last_line-in-Damaged.auto.0 ∙ c.loop-out.invariant.same
-
 pub returns-in-Damaged : goal.returns-in-Damaged
 returns-in-Damaged c =
     
@@ -41,17 +37,6 @@ returns-in-Damaged c =
 pub shape_of-out-in_default : goal.shape_of-out-in_default
 shape_of-out-in_default c =
     c.put_line.auto.out ∙ c.loop-out.invariant.same
-
-pub returns-in_default : goal.returns-in_default
-returns-in_default c =
-    
-    
-    let a = c.args in
-    let l = c.loop-out in
-    let f = next-found a.bytes.now l.at (sym c.record_at.ensures ∙ c.in-Record.is) in
-    let x = line_taken a.bytes.now a.out.now l.out l.session l.number l.at l.to l.invariant f c.part-found.ensures
-    c.put_line.ensures in
-    absurd (⊎_elim (λ w. omega arith) (λ w. omega arith) (rw x.answers at c.in_default.keys2))
 
 pub overflow_add-to : goal.overflow_add-to
 overflow_add-to c =
