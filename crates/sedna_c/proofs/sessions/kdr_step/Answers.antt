@@ -8,3 +8,15 @@ pub returns-then-session-lt2 : goal.returns-then-session-lt2
 returns-then-session-lt2 c =
     let none = lt-ltb _ _ c.if-session-lt2.true in
     record { answers = rw none c.refusal_code.ensures; leaves_session = rw none; leaves_fields = rw none }
+
+pub returns : goal.returns
+returns c =
+    let a = c.args in
+    let t = c.take.ensures in
+    let there = le-ltb _ _ c.if-session-lt2.false in
+    let same = step-answer (record_in a.session.now) a.side a.bytes.now _ refl in
+    record {
+      answers = rw (there, ← same) t.tells.answers;
+      leaves_session = rw (there, ← same) t.leaves_session;
+      leaves_fields = rw (there, ← same) t.tells.leaves;
+    }
