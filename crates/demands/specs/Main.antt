@@ -25,7 +25,7 @@ pub record Guarantees : Type 1 where
   pub cutting : demand_2.Parts
   -- 6. Typed values: accepted, 15 and 16 exactly when (`exactly`); instants as points in time (`in_order`, `incident`)
   pub values : Request1
-  -- 7. A refusal has the number that is listed, at the moment that is listed and never otherwise (`reading_refused`, `writing_refused`, `..-moments`), and
+  -- 7. A refusal has the number that is listed, at the moment that is listed and never otherwise (`reading_refused`, `writing_refused`, `.._moments`), and
   -- leaves the record and every lent byte
   pub refusals : demand_1.Demand1
   -- The same of what programs in C and Rust call, whatever they pass, one call or any list of them; and of what the transcript program prints

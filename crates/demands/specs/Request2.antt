@@ -14,7 +14,7 @@ pub record Request2 : Type 0 where
   -- 01: "then one of: …; a bulk load": a file may be asked for behind every statement's text ..
   pub asked : (l : List Message) (text m : Message) → OneOf (M.Execute ∷ M.LongQueryEnd ∷ []) text.instruction → Begins (l ++ (text ∷ []))
       → Published Side.Server m → OneOf (M.BulkLoadFileName ∷ M.BulkLoadFromStream ∷ []) m.instruction → Begins (l ++ (text ∷ m ∷ []))
-  -- .. and "BulkLoadError may stand after any number of portions instead of BulkLoadEnd". ErrorResponse breaks the file off (`Demand3.broken-off`)
+  -- .. and "BulkLoadError may stand after any number of portions instead of BulkLoadEnd". ErrorResponse breaks the file off (`Demand3.broken_off`)
   pub in_file : (l : List Message) → InFile l → Begins l → GoesOnWith l (M.BulkLoadPortion ∷ M.BulkLoadEnd ∷ M.BulkLoadError ∷ M.ErrorResponse ∷ [])
   -- it stands nowhere else
   pub only_there : (l : List Message) (e : Message) → e.instruction ≡ M.BulkLoadError → Begins (l ++ (e ∷ [])) → InFile l

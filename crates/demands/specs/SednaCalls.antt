@@ -62,7 +62,7 @@ pub record SednaCalls : Type 0 where
       → (fields_after (side_reading side bytes) f at COUNT ≡ length ps)
       × ((k : ℕ) (lent : List ℕ)
       → OptionCalled bytes (fields_after (side_reading side bytes) f at START_1) (fields_after (side_reading side bytes) f at LENGTH_1) k lent (get_elem? ps k))
-  -- each call that writes a message: `written` is such a judgement, and `Demand2.sedna.writing-exact`, `Demand1.sedna.writing-refused` say which
+  -- each call that writes a message: `written` is such a judgement, and `Demand2.sedna.writing_exact`, `Demand1.sedna.writing_refused` say which
   pub write : (instruction : ℕ) (shape : Shape) (ok : Bool) (n room : ℕ)
       → answered (counted_code (judgement instruction shape ok n room)) ≡ written_as (judgement instruction shape ok n room)
   -- `kdr_write_options`, where the three lists do not belong together: 2 or 8 by the table, and the output stays

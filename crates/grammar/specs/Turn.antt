@@ -9,9 +9,9 @@ pub record GoesOn (before : List Message) (side : Side) : Type 0 where
   pub published : Published side next
   pub begins : Begins (before ++ (next ∷ []))
 
--- the side that has the turn, none where the conversation is over; `Demand3.one-turn`: each case shuts out the others
+-- the side that has the turn, none where the conversation is over; `Demand3.one_turn`: each case shuts out the others
 pub data HasTurn (before : List Message) : Option Side → Type 0 where
-  -- a message of the client's goes on; of the server's, ErrorResponse at most, which ends the conversation (`Demand3.broken-off`)
+  -- a message of the client's goes on; of the server's, ErrorResponse at most, which ends the conversation (`Demand3.broken_off`)
   client : GoesOn before Side.Client → ((m : Message) → Published Side.Server m → Begins (before ++ (m ∷ [])) → m.instruction ≡ ErrorResponse)
       → HasTurn before (some Side.Client)
   -- a message of the server's goes on, and none of the client's

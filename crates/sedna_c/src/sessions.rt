@@ -107,7 +107,7 @@ fn take(side: u8, bytes: &[u8], stepping: bool, session: &mut [u8], fields: &mut
 }
 
 // Reads the message at the front of bytes: side 1 is the client, 2 the server. The fields are
-// instruction, shape, two numbers, two places, a count and whether there is a URL; see fieldsOf.
+// instruction, shape, two numbers, two places, a count and whether there is a URL; see fields_of.
 #[unsafe(no_mangle)]
 pub extern "C" fn kdr_read(side: u8, bytes: &[u8], fields: &mut [u64]) -> u64
     ensures { TellsReading (side_reading side bytes.now) fields.old result fields.new }

@@ -1,4 +1,4 @@
--- Document 02, request 1: XML Schema's date_time, its fields one behind the other, and the instant that it means: days by counting them, then seconds, then
+-- Document 02, request 1: XML Schema's dateTime, its fields one behind the other, and the instant that it means: days by counting them, then seconds, then
 -- the zone. No reader is known here.
 use mathlib.Core.{Bool.Bool, Bool.true, Bool.false, List.List, List.[], List.◌∷◌, List.◌++◌, Logic.◌⊎◌, Path.◌≡◌}
 use Rattle.std.specs.Prelude.{ℕ, ◌+◌, ◌-◌, ◌*◌, ◌/◌, ◌%◌, ◌≤◌, ◌<◌}

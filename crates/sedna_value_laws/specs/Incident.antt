@@ -1,4 +1,4 @@
--- What the old program got wrong: "An expiry of 09:00:00+02:00 came as a date_time, was kept as text, and was compared with 08:30:00Z as text."
+-- What the old program got wrong: "An expiry of 09:00:00+02:00 came as a dateTime, was kept as text, and was compared with 08:30:00Z as text."
 use mathlib.Core.{Bool.false, List.List, List.[], Path.◌≡◌}
 use Rattle.std.specs.Prelude.{ℕ, ◌≤◌, pos, ◌+ℤ◌}
 use Rattle.sedna_digits.specs.Numbers.{number}

@@ -35,7 +35,7 @@ ShiftBounded ZoneFound.Malformed = Unit {0}
 ShiftBounded ZoneFound.Missing = Unit {0}
 ShiftBounded (ZoneFound.Shift shift) = shift ≤ 136800
 
--- a date_time of its form, as it was read
+-- a dateTime of its form, as it was read
 pub record FieldsRead (y : Year) (c : Clock) (f : Fraction) (z : ZoneFound) : Type 0 where
   pub formed : is_formed y c f ≡ true
   pub fraction : FractionFits f
