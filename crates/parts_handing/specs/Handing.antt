@@ -17,7 +17,7 @@ handed_over a d m = take (bytes_handed (reply (joined a (length d) m).answer)) (
 pub record JoinHands (a : Assembly) (d : List ℕ) (at : ℕ × ℕ) (m : Message) (r : Handing) : Type 0 where
   pub answers : r.joined ≡ joined a (length d) m
   pub part : r.part.now ≡ handed_over a d m
-  pub place : r.part.ptr ≡ at
+  pub place : r.part.ref_ptr ≡ at
 
 -- what all messages of a cutting but the last leave, joined one after another from a fresh opening, with a buffer d
 abbrev pub gathered : Cutting → List ℕ → Gathered

@@ -1,6 +1,5 @@
 // Joining that returns what is finished as a part of the caller's buffer, beside the record and the
-// answer. A struct that holds a slice is beyond the borrow checker: `join_handing` is proved by a walk
-// of its statements, and does no more than call two functions that are covered.
+// answer.
 #![tactic(auto)]
 
 ghost use Rattle.sedna.specs.Message.{message};
