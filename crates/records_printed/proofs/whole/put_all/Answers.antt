@@ -89,3 +89,11 @@ loop-out-preserved c =
     let t = line_known x.answers c.in-Record-put_line.is in
     printing_next a.bytes.now a.out.now l.out l.session l.number l.at l.to l.invariant _ _ _ f t.1 t.0
     c.put_line.auto.out x.leaves
+
+pub returns-in_default : goal.returns-in_default
+returns-in_default c =
+    let a = c.args in
+    let l = c.loop-out in
+    let f = next-found a.bytes.now l.at (sym c.record_at.ensures ∙ c.in-Record.is) in
+    let x = line_taken a.bytes.now a.out.now l.out l.session l.number l.at l.to l.invariant f c.part-found.ensures c.put_line.ensures in
+    absurd (c.in_default.not-Record _ _ x.answers)
