@@ -26,12 +26,12 @@ use Rattle.sedna_value.specs.declared.Value.TheVariants.{At}
 use Rattle.sedna_value.specs.declared.Value.{Value}
 use Rattle.sedna_value.specs.declared.Valued.TheVariants as valued
 use Rattle.sedna_value.specs.Values.{from_dated}
-use Rattle.sedna_value_laws.specs.DateTimeTexts.{Zone, DateTime, Formed, FormedZone, Excluded, offset, seconds, local, nanoseconds, written, Means}
+use Rattle.sedna_value_laws.specs.DateTimeTexts.{Zone, DateTime, fraction_text, Formed, FormedZone, Excluded, offset, seconds, local, nanoseconds, written, Means}
 use Rattle.sedna_value_laws.specs.Texts.{Kind}
 use Rattle.sedna_value_laws.proofs.Reader.{Answer, Reader}
 use Rattle.sedna_value_laws.proofs.DateTimesPlaces.{of_test, clock_of}
 use Rattle.sedna_value_laws.proofs.DateTimesZones.{zone_of}
-use Rattle.sedna_value_laws.proofs.DateTimesYears.{year_is}
+use Rattle.sedna_value_laws.proofs.DateTimesYears.{after, year_is}
 use Rattle.sedna_value_laws.proofs.DateTimesFractions.{fraction_is}
 use Rattle.sedna_value_laws.proofs.DateTimesFields.{instant-sound, instant-read}
 
@@ -154,7 +154,7 @@ never_both t v m (Excluded.more_digits b) = omega arith
 pub instant_reader : Reader Kind.instant (λ (s : List ℕ). from_dated (instant_of s))
 instant_reader = record {
   sound = λ s. by s (instant-sound s);
-  complete = λ t f. subst (λ (d : Dated). Answer Kind.instant t (from_dated d)) (sym (instant-read t f)) (answered t f _ _);
+  complete = λ t f. subst (λ (d : Dated). Answer Kind.instant t (from_dated d)) (sym (instant-read t f)) (answered t f (after t.minus) (after t.minus + length t.year + 15 + length (fraction_text t.fraction)));
   one_value = one-instant;
   apart = never_both;
 }
