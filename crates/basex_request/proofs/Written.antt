@@ -19,7 +19,7 @@ use Rattle.basex.specs.declared.Found.TheVariants.{Known, Unknown}
 use Rattle.basex.specs.declared.Reply.{Reply}
 use Rattle.basex.specs.declared.Reply.TheVariants.{Command}
 use Rattle.basex.specs.Kinds.{starts_command, row_byte, find_of, is_command}
-use Rattle.basex.specs.Request.{Request, encode, opens, Published}
+use Rattle.basex.specs.Request.{Request, encode, Published}
 use Rattle.basex.specs.Texts.{unused}
 use Rattle.basex_request.specs.Reading.{kind_of, texts_of}
 use Rattle.basex_request.specs.Writing.{request_of, encodable, request_written, written_as, written, bytes_of}

@@ -1,10 +1,10 @@
-use mathlib.Core.Path.{refl}
+use mathlib.Core.Path.{◌≡◌, refl}
 use mathlib.Core.List.{List, [], ◌∷◌, ◌++◌}
-use Prim.Native.Nat.{ℕ}
+use Prim.Native.Nat.{ℕ, ◌+◌, ◌≤◌}
 use native.Mathlib.Omega.{arith}
 use lib.Dec.{ltb}
-use lib.ListN.{take}
-use Rattle.wire.specs.Call.{put_at}
+use lib.ListN.{length, take}
+use Rattle.wire.specs.Call.{put_at, Gives}
 use Rattle.wire.proofs.Splices.{Ahead, step, last}
 use Rattle.basex.specs.Texts.{string_if}
 use Rattle.basex.specs.Request.{Request, encode}
@@ -13,71 +13,51 @@ use Rattle.basex_request.proofs.Puts.{coded-ahead, coded-length}
 use Rattle.basex_request.specs.Calls.{four}
 use Rattle.basex_request.proofs.coding.put_coded.Goals as goal
 
--- the string of each text that is taken, and the output with the whole request
-abbrev first : tie.Start → List ℕ
-first s = string_if (ltb 0 s.args.n) s.args.first.now
+-- the whole request, and the output with it
+abbrev bytes : (a b c d : List ℕ) (kind n : ℕ) → List ℕ
+bytes a b c d kind n = encode (Request.coded kind (take n (four a b c d)))
 
-abbrev second : tie.Start → List ℕ
-second s = string_if (ltb 1 s.args.n) s.args.second.now
+-- the call's arguments, the bytes fitting; the output after the first byte
+module _ (a b c d : List ℕ) (kind n : ℕ) (out : List ℕ) (fits : length (bytes a b c d kind n) ≤ length out) {o : List ℕ} (f : o ≡ put_at out 0 (kind ∷ [])) where
+  -- what a string's writing gives, where the one before it gave k and left o
+  abbrev Given : (k : ℕ) (o s : List ℕ) (l : ℕ) (p : List ℕ) → Type 0
+  Given k o s l p = Gives (k + length s) (put_at o k s) l p
 
-abbrev third : tie.Start → List ℕ
-third s = string_if (ltb 2 s.args.n) s.args.third.now
+  -- what is ahead before each string
+  ahead : Ahead (put_at out 0 (bytes a b c d kind n)) o 1
+      (string_if (ltb 0 n) a ++ (string_if (ltb 1 n) b ++ (string_if (ltb 2 n) c ++ string_if (ltb 3 n) d)))
+  ahead = step (kind ∷ []) 1 (coded-ahead a b c d kind n out fits) f refl
 
-abbrev fourth : tie.Start → List ℕ
-fourth s = string_if (ltb 3 s.args.n) s.args.fourth.now
+  module _ {k : ℕ} {p : List ℕ} (g : Given 1 o (string_if (ltb 0 n) a) k p) where
+    ahead-2 : Ahead (put_at out 0 (bytes a b c d kind n)) p k (string_if (ltb 1 n) b ++ (string_if (ltb 2 n) c ++ string_if (ltb 3 n) d))
+    ahead-2 = step (string_if (ltb 0 n) a) k ahead g.leaves g.answers
 
-abbrev whole : tie.Start → List ℕ
-whole s = put_at s.args.out.now 0 (encode (Request.coded s.args.kind (take s.args.n (four s.args.first.now s.args.second.now s.args.third.now s.args.fourth.now))))
+    module _ {l : ℕ} {q : List ℕ} (h : Given k p (string_if (ltb 1 n) b) l q) where
+      ahead-3 : Ahead (put_at out 0 (bytes a b c d kind n)) q l (string_if (ltb 2 n) c ++ string_if (ltb 3 n) d)
+      ahead-3 = step (string_if (ltb 1 n) b) l ahead-2 h.leaves h.answers
 
--- what is ahead before each string
-ahead : (c : tie.After-put-string-if-arg) → Ahead (whole c.before.before.before.before.before.before.before.before.before.before)
-    c.before.before.before.put_byte.new.0 1 (first c.before.before.before.before.before.before.before.before.before.before ++
-    (second c.before.before.before.before.before.before.before.before.before.before ++
-    (third c.before.before.before.before.before.before.before.before.before.before ++ fourth c.before.before.before.before.before.before.before.before.before.before)))
-ahead c =
-    let s = c.before.before.before.before.before.before.before.before.before.before in
-    let a = s.args in
-    step (a.kind ∷ []) 1 (coded-ahead a.first.now a.second.now a.third.now a.fourth.now a.kind a.n a.out.now s.requires) c.before.before.before.put_byte.ensures refl
-
-ahead-2 : (c : tie.After-put-string-if-arg2) → Ahead (whole c.before.before.before.before.before.before.before.before.before.before.before.before.before.before)
-    c.before.before.before.put-string-if.new.0 c.before.before.before.put-string-if.result
-    (second c.before.before.before.before.before.before.before.before.before.before.before.before.before.before ++
-    (third c.before.before.before.before.before.before.before.before.before.before.before.before.before.before ++
-    (fourth c.before.before.before.before.before.before.before.before.before.before.before.before.before.before)))
-ahead-2 c = step (first c.before.before.before.before.before.before.before.before.before.before.before.before.before.before) _
-    (ahead c.before.before.before.before) c.before.before.before.put-string-if.ensures.leaves c.before.before.before.put-string-if.ensures.answers
-
-ahead-3 : (c : tie.After-put-string-if-arg3) → Ahead (whole
-    c.before.before.before.before.before.before.before.before.before.before.before.before.before.before.before.before.before.before)
-    c.before.before.before.put-string-if2.new.0 c.before.before.before.put-string-if2.result
-    (third c.before.before.before.before.before.before.before.before.before.before.before.before.before.before.before.before.before.before ++
-    (fourth c.before.before.before.before.before.before.before.before.before.before.before.before.before.before.before.before.before.before))
-ahead-3 c = step (second c.before.before.before.before.before.before.before.before.before.before.before.before.before.before.before.before.before.before) _
-    (ahead-2 c.before.before.before.before) c.before.before.before.put-string-if2.ensures.leaves c.before.before.before.put-string-if2.ensures.answers
-
-ahead-4 : (c : tie.After-put-string-if-arg4) → Ahead (whole
-    c.before.before.before.before.before.before.before.before.before.before.before.before.before.before.before.before.before.before.before.before.before.before)
-    c.before.before.before.put-string-if3.new.0 c.before.before.before.put-string-if3.result
-    (fourth c.before.before.before.before.before.before.before.before.before.before.before.before.before.before.before.before.before.before.before.before.before.before)
-ahead-4 c = step (third c.before.before.before.before.before.before.before.before.before.before.before.before.before.before.before.before.before.before.before.before.before.before) _
-    (ahead-3 c.before.before.before.before) c.before.before.before.put-string-if3.ensures.leaves c.before.before.before.put-string-if3.ensures.answers
+      ahead-4 : {m : ℕ} {r : List ℕ} → Given l q (string_if (ltb 2 n) c) m r → Ahead (put_at out 0 (bytes a b c d kind n)) r m (string_if (ltb 3 n) d)
+      ahead-4 {m} i = step (string_if (ltb 2 n) c) m ahead-3 i.leaves i.answers
 
 pub put_string_if-b-requires : goal.put_string_if-b-requires
 put_string_if-b-requires c =
-    first_fits (first c) (second c ++ (third c ++ fourth c)) (ahead c)
+    let a = c.args in
+    first_fits _ _ (ahead a.first.now a.second.now a.third.now a.fourth.now a.kind a.n a.out.now c.requires c.put_byte.ensures)
 
 pub put_string_if-c-requires : goal.put_string_if-c-requires
 put_string_if-c-requires c =
-    first_fits (second c) (third c ++ fourth c) (ahead-2 c)
+    let a = c.args in
+    first_fits _ _ (ahead-2 a.first.now a.second.now a.third.now a.fourth.now a.kind a.n a.out.now c.requires c.put_byte.ensures c.put_string_if-b.ensures)
 
 pub put_string_if-d-requires : goal.put_string_if-d-requires
 put_string_if-d-requires c =
-    first_fits
-    (third c) (fourth c) (ahead-3 c)
+    let a = c.args in
+    first_fits _ _ (ahead-3 a.first.now a.second.now a.third.now a.fourth.now a.kind a.n a.out.now c.requires c.put_byte.ensures c.put_string_if-b.ensures c.put_string_if-c.ensures)
 
 pub put_string_if-requires : goal.put_string_if-requires
 put_string_if-requires c =
-    (ahead-4 c).ranges
+    let a = c.args in
+    (ahead-4 a.first.now a.second.now a.third.now a.fourth.now a.kind a.n a.out.now c.requires c.put_byte.ensures c.put_string_if-b.ensures c.put_string_if-c.ensures c.put_string_if-d.ensures).fits
 
 pub returns : goal.returns
 returns c =
@@ -87,4 +67,8 @@ returns c =
     let q = c.put_string_if-c.ensures.answers in
     let r = c.put_string_if-d.ensures.answers in
     let s = c.put_string_if.ensures.answers in
-    record { answers = omega arith; leaves = last (ahead-4 c) c.put_string_if.ensures.leaves }
+    record {
+      answers = omega arith;
+      leaves = last (ahead-4 a.first.now a.second.now a.third.now a.fourth.now a.kind a.n a.out.now c.requires c.put_byte.ensures c.put_string_if-b.ensures c.put_string_if-c.ensures c.put_string_if-d.ensures)
+        c.put_string_if.ensures.leaves;
+    }

@@ -2,51 +2,46 @@ use mathlib.Core.Path.{◌≡◌, sym, ◌∙◌}
 use mathlib.Core.List.{List}
 use Prim.Native.Nat.{ℕ, ◌+◌, ◌≤◌}
 use native.Mathlib.Omega.{arith}
+use lib.Dec.{ltb}
 use lib.ListN.{length, take}
+use Rattle.wire.specs.Call.{in_room}
+use Rattle.wire.specs.declared.Counted.TheVariants.{Count}
 use Rattle.wire.proofs.Call.{counted-there}
+use Rattle.basex.specs.Texts.{string_if}
 use Rattle.basex.specs.Request.{Request, encode}
 use Rattle.basex_request.proofs.Puts.{coded-length, coded_not, coded-put}
 use Rattle.basex_request.specs.Calls.{four}
 use Rattle.basex_request.proofs.coding.write_coded.Goals as goal
 
-abbrev bytes : tie.Start → List ℕ
-bytes s =
-    let a = s.args in
-    encode (Request.coded a.kind (take a.n (four a.first.now a.second.now a.third.now a.fourth.now)))
+-- how many bytes the strings have, and that they fit
+module _ (a b c d : List ℕ) (kind n : ℕ) {i j k l : ℕ} (p : i ≡ length (string_if (ltb 0 n) a)) (q : j ≡ length (string_if (ltb 1 n) b))
+    (r : k ≡ length (string_if (ltb 2 n) c)) (s : l ≡ length (string_if (ltb 3 n) d)) where
+  sized : length (encode (Request.coded kind (take n (four a b c d)))) ≡ 1 + (i + j + k + l)
+  sized = let t = coded-length a b c d kind n in omega arith
 
--- how many bytes the strings have
-abbrev size : tie.After-size-if4 → ℕ
-size c = c.before.before.before.size-if.result + c.before.before.size-if2.result + c.before.size-if3.result + c.size-if4.result
-
-sized : (c : tie.After-size-if4) → length (bytes c.before.before.before.before.before.before.before.before.before) ≡ 1 + size c
-sized c =
-    let a = c.before.before.before.before.before.before.before.before.before.args in
-    let l = coded-length a.first.now a.second.now a.third.now a.fourth.now a.kind a.n in
-    let p = c.before.before.before.size-if.ensures in
-    let q = c.before.before.size-if2.ensures in
-    let r = c.before.size-if3.ensures in
-    let s = c.size-if4.ensures in
-    omega arith
-
-fits : (c : tie.After-enum-told) → let s = c.before.before.before.before.before.before.before.before.before.before.before.before in length (bytes s) ≤ length s.args.out.now
-fits c =
-    let l = sized c.before.before.before in
-    let f = (counted-there (length c.before.before.before.before.before.before.before.before.before.before.before.before.args.out.now) 1 (size c.before.before.before) _
-    (sym c.before.before.parts-in-room.ensures ∙ c.enum_told.given.1)).1 in
-    omega arith
+  fits : {room m : ℕ} → in_room room 1 (i + j + k + l) ≡ Count m → length (encode (Request.coded kind (take n (four a b c d)))) ≤ room
+  fits {room} {m} e =
+      let t = sized in
+      let f = (counted-there room 1 (i + j + k + l) m e).1 in
+      omega arith
 
 pub put_coded-requires : goal.put_coded-requires
 put_coded-requires c =
-    fits c
+    let a = c.args in
+    fits a.first.now a.second.now a.third.now a.fourth.now a.kind a.n c.size_if-a.ensures c.size_if-b.ensures c.size_if-c.ensures c.size_if-d.ensures
+    (sym c.parts_in_room.ensures ∙ c.in-Count.is)
 
 pub returns-in-Refused : goal.returns-in-Refused
 returns-in-Refused c =
     let a = c.args in
-    coded_not a.first.now a.second.now a.third.now a.fourth.now a.kind a.n a.out.now _ (sized c)
+    coded_not a.first.now a.second.now a.third.now a.fourth.now a.kind a.n a.out.now _
+    (sized a.first.now a.second.now a.third.now a.fourth.now a.kind a.n c.size_if-a.ensures c.size_if-b.ensures c.size_if-c.ensures c.size_if-d.ensures)
     (sym c.parts_in_room.ensures ∙ c.in-Refused.is)
 
 pub returns-in-Count : goal.returns-in-Count
 returns-in-Count c =
     let a = c.args in
-    coded-put a.first.now a.second.now a.third.now a.fourth.now a.kind a.n a.out.now (fits c)
+    coded-put a.first.now a.second.now a.third.now a.fourth.now a.kind a.n a.out.now
+    (fits a.first.now a.second.now a.third.now a.fourth.now a.kind a.n c.size_if-a.ensures c.size_if-b.ensures c.size_if-c.ensures c.size_if-d.ensures
+    (sym c.parts_in_room.ensures ∙ c.in-Count.is))
     c.put_coded.ensures
