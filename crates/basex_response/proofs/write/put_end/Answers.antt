@@ -1,64 +1,66 @@
 use mathlib.Core.Path.{◌≡◌, refl, sym, ap, ◌∙◌}
+use mathlib.Core.Bool.{Bool}
 use mathlib.Core.List.{List, ◌++◌}
 use Prim.Native.Nat.{ℕ, ◌+◌, ◌≤◌}
 use native.Mathlib.Omega.{arith}
 use lib.ListN.{length, length-append}
-use Rattle.wire.specs.Call.{put_at}
+use Rattle.wire.specs.Call.{in_room, put_at}
+use Rattle.wire.specs.declared.Counted.TheVariants.{Count}
 use Rattle.wire.proofs.Splices.{both, put_at_not}
-use Rattle.basex_response.specs.inner.Spelling.{ahead_parts, last_parts, end_parts}
 use Rattle.wire.proofs.Call.{refused-short, counted-there}
+use Rattle.basex.specs.declared.Reply.{Reply}
+use Rattle.basex.specs.Kinds.{ahead, behind, listed}
+use Rattle.basex_response.specs.inner.Spelling.{ahead_parts, last_parts, end_parts}
 use Rattle.basex_response.proofs.write.put_end.Goals as goal
 
-abbrev parts : tie.Start → List ℕ
-parts c = end_parts c.args.reply c.args.first.now c.args.second.now c.args.status c.args.error.now
+-- the end in the two parts that are put, and that they fit
+module _ (reply : Reply) (first second : List ℕ) (status : ℕ) (error : List ℕ) {n : ℕ} {list : Bool} {m : ℕ} (p : n ≡ ahead reply) (q : list ≡ listed reply)
+    (r : m ≡ behind reply status) where
+  same : ahead_parts n first second ++ last_parts list status m error ≡ end_parts reply first second status error
+  same = rw (p, q, r) refl
 
-abbrev first : tie.After-strings-behind → List ℕ
-first c = ahead_parts c.before.before.strings-ahead.result c.before.before.before.before.before.before.before.before.before.before.before.args.first.now
-    c.before.before.before.before.before.before.before.before.before.before.before.args.second.now
-
-abbrev second : tie.After-strings-behind → List ℕ
-second c = last_parts c.before.is-listed.result c.before.before.before.before.before.before.before.before.before.before.before.args.status
-    c.strings-behind.result c.before.before.before.before.before.before.before.before.before.before.before.args.error.now
-
-same : (c : tie.After-strings-behind) → first c ++ second c ≡ parts c.before.before.before.before.before.before.before.before.before.before.before
-same c = rw (c.before.before.strings-ahead.ensures, c.before.is-listed.ensures, c.strings-behind.ensures) refl
-
-fits : (c : tie.After-strings-behind) → c.before.before.before.before.before.before.before.before.before.before.before.args.at + length
-    (first c ++ second c) ≤ length c.before.before.before.before.before.before.before.before.before.before.before.args.out.now
-fits c =
-    let a = c.before.before.before.before.before.before.before.before.before.before.before.args in
-    let f = (counted-there (length a.out.now) a.at (length (parts c.before.before.before.before.before.before.before.before.before.before.before)) _
-    (sym c.before.before.before.before.before.before.end-room.ensures ∙ c.before.before.before.before.room2.given.1)).1 in
-    let s = ap length (same c) in
-    omega arith
+  fits : (at : ℕ) {room k : ℕ} → in_room room at (length (end_parts reply first second status error)) ≡ Count k
+      → at + length (ahead_parts n first second ++ last_parts list status m error) ≤ room
+  fits at {room} {k} e =
+      let f = (counted-there room at (length (end_parts reply first second status error)) k e).1 in
+      let s = ap length same in
+      omega arith
 
 pub put_ahead-next-requires : goal.put_ahead-next-requires
 put_ahead-next-requires c =
-    let f = fits c in omega (arith, length-append (first c) (second c))
+    let a = c.args in
+    let f = fits a.reply a.first.now a.second.now a.status a.error.now c.strings_ahead-ahead.ensures c.is_listed-list.ensures c.strings_behind-behind.ensures a.at
+        (sym c.end_room-room.ensures ∙ c.in-Count.is) in
+    omega (arith, length-append (ahead_parts c.strings_ahead-ahead.result a.first.now a.second.now)
+    (last_parts c.is_listed-list.result a.status c.strings_behind-behind.result a.error.now))
 
 pub put_last-requires : goal.put_last-requires
 put_last-requires c =
-    let f = fits c in omega (arith, length-append (first c) (second c))
+    let a = c.args in
+    let f = fits a.reply a.first.now a.second.now a.status a.error.now c.strings_ahead-ahead.ensures c.is_listed-list.ensures c.strings_behind-behind.ensures a.at
+        (sym c.end_room-room.ensures ∙ c.in-Count.is) in
+    omega (arith, length-append (ahead_parts c.strings_ahead-ahead.result a.first.now a.second.now)
+    (last_parts c.is_listed-list.result a.status c.strings_behind-behind.result a.error.now))
 
 pub returns-in-Refused : goal.returns-in-Refused
 returns-in-Refused c =
     let a = c.args in
-    let e = sym c.end_room-room.ensures ∙ c.in-Refused.is in
+    let p = end_parts a.reply a.first.now a.second.now a.status a.error.now in
     record {
       answers = sym c.in-Refused.is ∙ c.end_room-room.ensures;
-      leaves = sym (put_at_not a.out.now a.at (parts c)
-          (refused-short (length a.out.now) a.at (length (parts c)) _ e).1);
+      leaves = sym (put_at_not a.out.now a.at p (refused-short (length a.out.now) a.at (length p) _ (sym c.end_room-room.ensures ∙ c.in-Refused.is)).1);
     }
 
 pub returns-in-Count : goal.returns-in-Count
 returns-in-Count c =
     let a = c.args in
     record {
-      answers = sym c.in-Count.is
-          ∙ c.end_room-room.ensures;
-      leaves = both a.out.now a.at (first c)
-          (second c) _ (fits c)
-          c.put_ahead-next.ensures.leaves c.put_last.ensures
-          c.put_ahead-next.ensures.answers
-          ∙ ap (put_at a.out.now a.at) (same c);
+      answers = sym c.in-Count.is ∙ c.end_room-room.ensures;
+      leaves = both a.out.now a.at (ahead_parts c.strings_ahead-ahead.result a.first.now a.second.now)
+          (last_parts c.is_listed-list.result a.status c.strings_behind-behind.result a.error.now) _
+          (fits a.reply a.first.now a.second.now a.status a.error.now c.strings_ahead-ahead.ensures c.is_listed-list.ensures c.strings_behind-behind.ensures a.at
+          (sym c.end_room-room.ensures ∙ c.in-Count.is))
+          c.put_ahead-next.ensures.leaves c.put_last.ensures c.put_ahead-next.ensures.answers
+          ∙ ap (put_at a.out.now a.at) (same a.reply a.first.now a.second.now a.status a.error.now c.strings_ahead-ahead.ensures c.is_listed-list.ensures
+          c.strings_behind-behind.ensures);
     }

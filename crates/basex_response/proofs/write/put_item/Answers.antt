@@ -1,77 +1,63 @@
 use mathlib.Core.Path.{◌≡◌, refl, sym, ap, ◌∙◌}
+use mathlib.Core.Bool.{Bool}
 use mathlib.Core.List.{List, [], ◌∷◌, ◌++◌}
 use Prim.Native.Nat.{ℕ, ◌+◌, ◌≤◌}
 use native.Mathlib.Omega.{arith}
 use lib.ListN.{length}
 use Rattle.wire.specs.Bytes.{splice}
+use Rattle.wire.specs.Call.{in_room, put_at, Gives}
+use Rattle.wire.specs.declared.Counted.TheVariants.{Count}
 use Rattle.wire.proofs.Splices.{Ahead, start, step, last, put_at-fits, put_at_not}
-use Rattle.basex_string.specs.Strings.{string}
-use Rattle.wire.specs.Call.{in_room}
 use Rattle.wire.proofs.Call.{refused-short, counted-there}
+use Rattle.basex_string.specs.Strings.{string}
 use Rattle.basex.specs.Texts.{string_if}
 use Rattle.basex_response.specs.inner.Spelling.{item_parts}
 use Rattle.basex.proofs.Puts.{first_fits}
 use Rattle.basex_response.proofs.Writes.{item-parts-size}
 use Rattle.basex_response.proofs.write.put_item.Goals as goal
 
-abbrev parts : tie.Start → List ℕ
-parts c = item_parts c.args.uris c.args.id c.args.uri.now c.args.text.now
+module _ (uris : Bool) (id : ℕ) (uri text : List ℕ) where
+  -- how many bytes the item has, and that they fit
+  sizes : {u t : ℕ} → u ≡ length (string_if uris uri) → t ≡ length (string text) → length (item_parts uris id uri text) ≡ 1 + u + t + 0
+  sizes p q = omega (arith, item-parts-size uris id uri text)
 
-abbrev made : tie.Start → List ℕ
-made c = splice c.args.out.now c.args.at (parts c)
+  fits : (at : ℕ) {u t room n : ℕ} → u ≡ length (string_if uris uri) → t ≡ length (string text) → in_room room at (1 + u + t + 0) ≡ Count n → at + length (item_parts uris id uri text) ≤ room
+  fits at {u} {t} {room} {n} p q e =
+      let k = sizes p q in
+      let f = (counted-there room at (1 + u + t + 0) n e).1 in
+      omega arith
 
--- how many bytes the item has, and that they fit
-sizes : (c : tie.After-size-if2) → length (parts c.before.before.before.before.before) ≡ 1 + c.before.size-if.result + c.size-if2.result + 0
-sizes c = let a = c.before.before.before.before.before.args in let u = c.before.size-if.ensures in
-    let t = c.size-if2.ensures in omega (arith, item-parts-size a.uris a.id a.uri.now a.text.now)
+  -- the id is put, and then the URI
+  module _ (out : List ℕ) (at : ℕ) (f : at + length (item_parts uris id uri text) ≤ length out) {d : List ℕ} (i : d ≡ put_at out at (id ∷ [])) where
+    id-put : Ahead (splice out at (item_parts uris id uri text)) d (at + 1) (string_if uris uri ++ string text)
+    id-put = step (id ∷ []) (at + 1) (start out at (item_parts uris id uri text) f) i refl
 
-fits : (c : tie.After-known-told2) → c.before.before.before.before.before.before.before.before.before.args.at + length
-    (parts c.before.before.before.before.before.before.before.before.before) ≤ length c.before.before.before.before.before.before.before.before.before.args.out.now
-fits c =
-    let k = sizes c.before.before.before.before in
-    let r = counted-there (length c.before.before.before.before.before.before.before.before.before.args.out.now)
-    c.before.before.before.before.before.before.before.before.before.args.at
-    (1 + c.before.before.before.before.before.size-if.result + c.before.before.before.before.size-if2.result + 0) _
-    (sym c.before.before.before.parts-in-room.ensures ∙ c.before.room2.given.1) in
-    let f = r.1 in
-    omega arith
-
--- the id is put, and then the URI
-id-put : (c : tie.After-put-byte) → Ahead (made c.before.before.before.before.before.before.before.before.before.before.before) c.put_byte.new.0
-    (c.before.before.before.before.before.before.before.before.before.before.before.args.at + 1)
-    (string_if c.before.before.before.before.before.before.before.before.before.before.before.args.uris
-    c.before.before.before.before.before.before.before.before.before.before.before.args.uri.now ++ string
-    c.before.before.before.before.before.before.before.before.before.before.before.args.text.now)
-id-put c = step (c.before.before.before.before.before.before.before.before.before.before.before.args.id ∷ [])
-    (c.before.before.before.before.before.before.before.before.before.before.before.args.at + 1)
-    (start c.before.before.before.before.before.before.before.before.before.before.before.args.out.now
-    c.before.before.before.before.before.before.before.before.before.before.before.args.at
-    (parts c.before.before.before.before.before.before.before.before.before.before.before) (fits c.before.before)) c.put_byte.ensures refl
-
-uri-put : (c : tie.After-put-string-if) → Ahead (made
-    c.before.before.before.before.before.before.before.before.before.before.before.before.before.before.before) c.put-string-if.new.0
-    c.put-string-if.result (string c.before.before.before.before.before.before.before.before.before.before.before.before.before.before.before.args.text.now)
-uri-put c = step (string_if c.before.before.before.before.before.before.before.before.before.before.before.before.before.before.before.args.uris
-    c.before.before.before.before.before.before.before.before.before.before.before.before.before.before.before.args.uri.now) c.put-string-if.result
-    (id-put c.before.before.before.before) c.put-string-if.ensures.leaves c.put-string-if.ensures.answers
+    uri-put : {k : ℕ} {e : List ℕ} → Gives (at + 1 + length (string_if uris uri)) (put_at d (at + 1) (string_if uris uri)) k e
+        → Ahead (splice out at (item_parts uris id uri text)) e k (string text)
+    uri-put {k} g = step (string_if uris uri) k id-put g.leaves g.answers
 
 pub overflow_add-at : goal.overflow_add-at
 overflow_add-at c =
-    let f = fits c in omega arith
+    let a = c.args in
+    let f = fits a.uris a.id a.uri.now a.text.now a.at c.size_if-first.ensures c.size_if-second.ensures (sym c.parts_in_room-room.ensures ∙ c.in-Count.is) in
+    omega arith
 
 pub put_string_if-next-requires : goal.put_string_if-next-requires
 put_string_if-next-requires c =
-    let a = c.args in first_fits
-    (string_if a.uris a.uri.now) (string a.text.now) (id-put c)
+    let a = c.args in
+    let f = fits a.uris a.id a.uri.now a.text.now a.at c.size_if-first.ensures c.size_if-second.ensures (sym c.parts_in_room-room.ensures ∙ c.in-Count.is) in
+    first_fits (string_if a.uris a.uri.now) (string a.text.now) (id-put a.uris a.id a.uri.now a.text.now a.out.now a.at f c.put_byte.ensures)
 
 pub put_string_if-requires : goal.put_string_if-requires
 put_string_if-requires c =
-    let w = uri-put c in w.fits
+    let a = c.args in
+    let f = fits a.uris a.id a.uri.now a.text.now a.at c.size_if-first.ensures c.size_if-second.ensures (sym c.parts_in_room-room.ensures ∙ c.in-Count.is) in
+    (uri-put a.uris a.id a.uri.now a.text.now a.out.now a.at f c.put_byte.ensures c.put_string_if-next.ensures).fits
 
 pub returns-in-Refused : goal.returns-in-Refused
 returns-in-Refused c =
     let a = c.args in
-    let k = sizes c in
+    let k = sizes a.uris a.id a.uri.now a.text.now c.size_if-first.ensures c.size_if-second.ensures in
     let n = (refused-short (length a.out.now) a.at (1 + c.size_if-first.result + c.size_if-second.result + 0) _
     (sym c.parts_in_room-room.ensures ∙ c.in-Refused.is)).1 in
     record {
@@ -82,12 +68,10 @@ returns-in-Refused c =
 pub returns-in-Count : goal.returns-in-Count
 returns-in-Count c =
     let a = c.args in
-    let k = sizes c in
+    let k = sizes a.uris a.id a.uri.now a.text.now c.size_if-first.ensures c.size_if-second.ensures in
+    let f = fits a.uris a.id a.uri.now a.text.now a.at c.size_if-first.ensures c.size_if-second.ensures (sym c.parts_in_room-room.ensures ∙ c.in-Count.is) in
     record {
-      answers = sym c.in-Count.is
-          ∙ c.parts_in_room-room.ensures
-          ∙ ap (in_room (length a.out.now) a.at) (sym k);
-      leaves = last (uri-put c) c.put_string_if.ensures.leaves
-          ∙ sym (put_at-fits a.out.now a.at (item_parts a.uris a.id a.uri.now a.text.now)
-          (fits c));
+      answers = sym c.in-Count.is ∙ c.parts_in_room-room.ensures ∙ ap (in_room (length a.out.now) a.at) (sym k);
+      leaves = last (uri-put a.uris a.id a.uri.now a.text.now a.out.now a.at f c.put_byte.ensures c.put_string_if-next.ensures) c.put_string_if.ensures.leaves
+          ∙ sym (put_at-fits a.out.now a.at (item_parts a.uris a.id a.uri.now a.text.now) f);
     }

@@ -3,16 +3,14 @@ use mathlib.Core.Bool.{Bool}
 use Prim.Native.Nat.{ℕ}
 use lib.Dec.{eqb}
 use lib.ListN.{length}
-use Rattle.basex.specs.Kinds.{is_full, has_uri, item_strings}
+use Rattle.basex.specs.Kinds.{has_uri, item_strings}
 use Rattle.basex_response.specs.Writing.{item_written}
 use Rattle.basex_response.proofs.Writes.{uri-told, refused_writes, put_writes, item-bytes, item-answer, item-no-place}
 use Rattle.basex_response.proofs.write.write_item.Goals as goal
 
 -- whether the item has a URI
-uris : (c : tie.After-item-strings) → eqb c.item-strings.result 2 ≡ has_uri (is_full c.before.before.before.before.before.before.before.reply.given.0.1.0)
-    c.before.before.before.before.before.before.before.before.before.before.before.before.before.args.id
-uris c = ap (λ (n : ℕ). eqb n 2) (c.item-strings.ensures ∙ ap
-    (λ (f : Bool). item_strings f c.before.before.before.before.before.before.before.before.before.before.before.before.before.args.id) c.before.is-full.ensures) ∙ uri-told _ _
+uris : (id : ℕ) {full f : Bool} {n : ℕ} → f ≡ full → n ≡ item_strings f id → eqb n 2 ≡ has_uri full id
+uris id {full} {f} e g = ap (λ (m : ℕ). eqb m 2) (g ∙ ap (λ (f : Bool). item_strings f id) e) ∙ uri-told full id
 
 pub returns-then-not-is_listed : goal.returns-then-not-is_listed
 unfolding item_written
@@ -34,7 +32,7 @@ pub returns-then-not-has_place : goal.returns-then-not-has_place
 unfolding item_written
 returns-then-not-has_place c =
     let a = c.args in
-    let u = uris c in
+    let u = uris a.id c.is_full-full.ensures c.item_strings-strings.ensures in
     refused_writes _ _ a.out.now a.at _
     (item-no-place (length a.out.now) a.at a.kind a.id _ _ a.uri.now a.text.now
     (sym c.find.ensures
@@ -52,7 +50,7 @@ pub returns-else-not-has_place : goal.returns-else-not-has_place
 unfolding item_written
 returns-else-not-has_place c =
     let a = c.args in
-    let u = uris c in
+    let u = uris a.id c.is_full-full.ensures c.item_strings-strings.ensures in
     let k = sym c.find.ensures
     ∙ c.in-Known.is in
     put_writes a.out.now a.at _ _ (item-bytes (length a.out.now) a.at a.kind a.id _ _ a.uri.now a.text.now k _ u) _
