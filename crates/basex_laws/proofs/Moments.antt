@@ -9,7 +9,7 @@ pub mod Items
 pub mod Lists
 pub mod Ended
 pub mod Responses
-pub use Strings.{string-moments}
-pub use Requests.{request-moments}
-pub use Items.{item-moments}
-pub use Responses.{response-moments}
+pub use Strings.{string_moments}
+pub use Requests.{request_moments}
+pub use Items.{item_moments}
+pub use Responses.{response_moments}
