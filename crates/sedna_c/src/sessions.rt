@@ -3,7 +3,7 @@
 ghost use Rattle.std.specs.Prelude.{◌≡◌, ◌≤◌, length};
 ghost use Rattle.wire.specs.Bytes.{if};
 ghost use Rattle.wire.specs.Call.{Gives};
-ghost use Rattle.session.specs.Machine.{next as next_of};
+ghost use Rattle.session.specs.Machine.{move_of};
 ghost use Rattle.sedna_c.specs.Codes.{side_reading, TellsReading};
 ghost use Rattle.sedna_c.specs.Sessions.{record_in, record_put, fresh_code, fresh_after, Steps, closed_code, turn_code, turn_number};
 ghost use Rattle.sedna_c.specs.inner.Taking.{phase_after, Settles, Takes};
@@ -11,9 +11,9 @@ ghost use Rattle.sedna_c.specs.inner.Taking.{phase_after, Settles, Takes};
 use crate::sides::{Sender, sender_of};
 use crate::store_places;
 use answer_c::refusal_code;
-use sedna::Side;
+use sedna::{Found, Side};
 use sedna_read::Reading;
-use session::machine::next;
+use session::machine::next_found;
 use session::phase::REFUSED;
 use session::{Session, Turn};
 use wire::Refusal;
@@ -73,14 +73,14 @@ fn answer_code(answer: Reading, phase: u8, session: &mut [u8], fields: &mut [u64
 }
 
 // The phase after a step with the instruction i; for reading alone, any.
-fn phase_after(stepping: bool, session: &[u8], i: u32) -> u8
+fn phase_after(stepping: bool, found: Found, session: &[u8], i: u32) -> u8
     requires { 2 ≤ length session.now }
     ensures { result
-        ≡ if stepping (next_of (record_in session.now).phase (record_in session.now).version i) 0 }
+        ≡ if stepping (move_of found (record_in session.now).phase (record_in session.now).version i) 0 }
 {
     if stepping {
         let before = record_in(session);
-        next(before.phase, before.version, i)
+        next_found(found, before.phase, before.version, i)
     } else {
         0
     }
@@ -99,7 +99,7 @@ fn take(side: u8, bytes: &[u8], stepping: bool, session: &mut [u8], fields: &mut
         Sender::Is(s) => {
             let i = wire::get_int(bytes, 0);
             let found = sedna::find(i);
-            let phase = phase_after(stepping, session, i);
+            let phase = phase_after(stepping, found, session, i);
             let answer = sedna_read::read_found(found, s, bytes, phase != REFUSED);
             answer_code(answer, phase, session, fields)
         }

@@ -32,7 +32,8 @@ use Rattle.session.specs.Phases as N
 use Rattle.session.specs.Step.{fresh_session, version_after, closed_of, turn_of, side_of}
 use Rattle.session_laws.proofs.Follows.{Follows, fresh_follows, begins, whole-closed}
 use Rattle.session_laws.proofs.Published.{published-sent}
-use Rattle.session_laws.proofs.Ways.{row_each, row_led_by, row_only_at, broken_row}
+use Rattle.session.proofs.Rows.{broken_row}
+use Rattle.session_laws.proofs.Ways.{row_each, row_led_by, row_only_at}
 use Rattle.session_laws.proofs.Turn.{on, accepted_follows, refused_not, moves, answered, turn_exact, client_phase, server_phase}
 
 -- one side has the turn

@@ -36,7 +36,7 @@ use Rattle.session.specs.Step.{Outcome, version_after, settled, turn_of, side_of
 use Rattle.session_laws.proofs.Follows.{Follows, begins, whole-closed, last-closed, Settled, settles, moved, nine}
 use Rattle.session_laws.proofs.Phases.{Sender, sender, is}
 use Rattle.session_laws.proofs.Published.{published-sent, published_exact}
-use Rattle.session_laws.proofs.Ways.{broken_row}
+use Rattle.session.proofs.Rows.{broken_row}
 
 -- at each of the client's phases a message that it may send there
 asks : List Message

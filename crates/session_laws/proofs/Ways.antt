@@ -100,13 +100,6 @@ next_phase p v k = by (find_of k)
     by (Known Client shape) = along_phases k (client_row p v) (row_each to_phases refl p (client_rows v) refl)
     by (Known Server shape) = along_phases k (server_row p v) (row_each to_phases refl p (server_rows v) refl)
 
--- where the client has the turn, the server's row is `broken`
-pub broken_row : (p v : ℕ) → 1 ≤ p → p ≤ file → get_or (server_rows v) p [] ≡ broken
-broken_row zero v l h = absurd (omega arith)
-broken_row (suc q) v l h =
-    let below : q < 8 = omega arith in
-    get_or-append (replicate 8 broken) (drop 9 (server_rows v)) [] q below ∙ get_or-replicate 8 q broken [] below
-
 -- every way of the instruction leads to that phase
 abbrev pub leads : ℕ → ℕ → Row → Bool
 leads k to [] = true

@@ -8,7 +8,7 @@ ghost use Rattle.std.specs.Prelude.{◌<◌};
 
 mod names;
 
-use session::machine::sheet;
+use session::lookup::sheet;
 use session::table::Column;
 use text_lines::print::say;
 

@@ -14,14 +14,14 @@ slice_bounds-judge_head-end c =
     let d = c.args.buffer.now in
     let h = c.read_head in
     let w = within _ h.ensures c.in-Bytes.is in
-    got-fits d h.new.0 _ (omega arith) h.auto.out w
+    got-fits d h.new.head _ (omega arith) h.auto.head w
 
 pub slice_bounds-judge_head-end-2 : goal.slice_bounds-judge_head-end-2
 slice_bounds-judge_head-end-2 c =
     let d = c.args.buffer.now in
     let h = c.read_head in
     let w = within _ h.ensures c.in-Bytes.is in
-    sym (length-take-le _ _ (got-fits d h.new.0 _ (omega arith) h.auto.out w))
+    sym (length-take-le _ _ (got-fits d h.new.head _ (omega arith) h.auto.head w))
 
 pub overflow_add-end : goal.overflow_add-end
 overflow_add-end c =
@@ -32,7 +32,7 @@ slice_bounds-read_full-end c =
     let d = c.args.buffer.now in
     let h = c.read_head in
     let w = within _ h.ensures c.in-Bytes.is in
-    end_fits d h.new.0 _ (omega arith) h.auto.out w c.judge_head.ensures c.in-Record.is
+    end_fits d h.new.head _ (omega arith) h.auto.head w c.judge_head.ensures c.in-Record.is
 
 pub overflow_add-result : goal.overflow_add-result
 overflow_add-result c =
@@ -41,9 +41,9 @@ overflow_add-result c =
     let d = c.args.buffer.now in
     let h = c.read_head in
     let w = within _ h.ensures c.in-Bytes.is in
-    let o = payload-read d h.new.0 _ (omega arith) h.auto.out w c.judge_head.ensures
-    c.in-Record.is c.read_full.new.1.0 c.read_full.result
-    c.read_full.auto.1.0 c.read_full.ensures.0 in
+    let o = payload-read d h.new.head _ (omega arith) h.auto.head w c.judge_head.ensures
+    c.in-Record.is c.read_full.new.buf c.read_full.result
+    c.read_full.auto.buf c.read_full.ensures.0 in
     omega (arith, o.0)
 
 pub returns-in-Damaged : goal.returns-in-Damaged
@@ -51,7 +51,7 @@ returns-in-Damaged c =
     let d = c.args.buffer.now in
     let h = c.read_head in
     let w = within _ h.ensures c.in-Bytes.is in
-    head_read d h.new.0 _ (omega arith) h.auto.out w
+    head_read d h.new.head _ (omega arith) h.auto.head w
 
 pub returns-in-Record : goal.returns-in-Record
 returns-in-Record c =
@@ -60,5 +60,5 @@ returns-in-Record c =
     let d = c.args.buffer.now in
     let h = c.read_head in
     let w = within _ h.ensures c.in-Bytes.is in
-    payload-read d h.new.0 _ (omega arith) h.auto.out w c.judge_head.ensures
-    c.in-Record.is c.read_full.new.1.0 _ c.read_full.auto.1.0 c.read_full.ensures.0
+    payload-read d h.new.head _ (omega arith) h.auto.head w c.judge_head.ensures
+    c.in-Record.is c.read_full.new.buf _ c.read_full.auto.buf c.read_full.ensures.0

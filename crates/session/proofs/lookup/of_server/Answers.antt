@@ -4,7 +4,7 @@ use lib.ListN.{drop}
 use Rattle.sedna.specs.Table.{rows}
 use Rattle.session.specs.Sheet.{look_from}
 use Rattle.session.proofs.Sheet.{others}
-use Rattle.session.proofs.machine.of_server.Goals as goal
+use Rattle.session.proofs.lookup.of_server.Goals as goal
 
 pub returns-in-140 : goal.returns-in-140
 unfolding look_from rows

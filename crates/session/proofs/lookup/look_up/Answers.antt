@@ -3,7 +3,7 @@ use lib.ListN.{take, drop}
 use Rattle.sedna.specs.Table.{rows}
 use Rattle.session.specs.Sheet.{look_from, look_up}
 use Rattle.session.proofs.Sheet.{others}
-use Rattle.session.proofs.machine.look_up.Goals as goal
+use Rattle.session.proofs.lookup.look_up.Goals as goal
 
 pub returns-in-110 : goal.returns-in-110
 unfolding look_from rows look_up

@@ -3,7 +3,7 @@ use borrow.Author.Tests.{lt-ltb, le-ltb}
 use Rattle.session.specs.Phases.{closed}
 use Rattle.session.specs.Sheet.{entry_in}
 use Rattle.session.proofs.Sheet.{counted}
-use Rattle.session.proofs.machine.entry.Goals as goal
+use Rattle.session.proofs.lookup.entry.Goals as goal
 
 pub returns-then-at-gt-CLOSED : goal.returns-then-at-gt-CLOSED
 unfolding entry_in

@@ -1,6 +1,6 @@
 use native.Mathlib.Omega.{arith}
 use borrow.Author.Tests.{le-leb, lt-leb}
-use Rattle.session.proofs.machine.slot.Goals as goal
+use Rattle.session.proofs.lookup.slot.Goals as goal
 
 pub returns-then-version-le1 : goal.returns-then-version-le1
 returns-then-version-le1 c =
