@@ -15,6 +15,7 @@ use wire::{Counted, Place};
 
 // The file descriptors of standard input and output.
 const STDIN: i32 = 0;
+
 const STDOUT: i32 = 1;
 
 // How many bytes were read, 0 at the input's end; or the first read failed.

@@ -27,4 +27,3 @@ pub returns-in_default : goal.returns-in_default
 unfolding has_uri
 returns-in_default c =
     simp (c.if-full.true, ne_eqb _ _ c.in_default.in_default-own.rest.0.0.1, ne_eqb _ _ c.in_default.in_default-own.rest.0.1, ne_eqb _ _ c.in_default.in_default-own.rest.1)
-

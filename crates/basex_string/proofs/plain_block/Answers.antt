@@ -18,12 +18,14 @@ returns c =
     let e : c.loop-i.i ≡ 16 = omega arith in rw e at c.loop-i.invariant.1
 
 pub loop-i-preserved : goal.loop-i-preserved
-loop-i-preserved c =
-    (
+loop-i-preserved c = (
   omega arith,
-  elim c.if-is_special.branch [ then-is_special w ↦ w.plain-is ∙ block_special c.args.s.now c.args.at
-      c.loop-i.i c.loop-i.plain (omega arith) c.loop-i.invariant.1
-      (sym c.is_special.ensures ∙ w.if-is_special.true) | else-is_special w ↦ w.plain-is ∙ block_plain c.args.s.now c.args.at
-      c.loop-i.i c.loop-i.plain (omega arith) c.loop-i.invariant.1
-      (sym c.is_special.ensures ∙ w.if-is_special.false) ],
+  elim c.if-is_special.branch [
+    | then-is_special w ↦ w.plain-is ∙ block_special c.args.s.now c.args.at
+        c.loop-i.i c.loop-i.plain (omega arith) c.loop-i.invariant.1
+        (sym c.is_special.ensures ∙ w.if-is_special.true)
+    | else-is_special w ↦ w.plain-is ∙ block_plain c.args.s.now c.args.at
+        c.loop-i.i c.loop-i.plain (omega arith) c.loop-i.invariant.1
+        (sym c.is_special.ensures ∙ w.if-is_special.false)
+  ],
 )

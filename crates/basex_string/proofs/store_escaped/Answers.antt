@@ -11,15 +11,14 @@ use Rattle.basex_string.proofs.Runs.{run_fits, run-size, run-text, run-text-size
 use Rattle.basex_string.proofs.store_escaped.Goals as goal
 
 pub loop-n-init : goal.loop-n-init
-loop-n-init c =
-    (
-      refl,
-      (
-        omega arith,
-        ahead-from c.args.out.now c.args.to (text_read (reading (drop c.args.at c.args.bytes.now)))
-            (omega arith),
-      ),
-    )
+loop-n-init c = (
+  refl,
+  (
+    omega arith,
+    ahead-from c.args.out.now c.args.to (text_read (reading (drop c.args.at c.args.bytes.now)))
+        (omega arith),
+  ),
+)
 
 pub bounds-bytes-i : goal.bounds-bytes-i
 bounds-bytes-i c =

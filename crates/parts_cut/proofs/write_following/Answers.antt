@@ -12,7 +12,6 @@ piece-requires c =
 
 pub returns-then-k-piece_count : goal.returns-then-k-piece_count
 returns-then-k-piece_count c =
-    
     let a = c.args in
     found a.out.now _ _ (following_piece a.text.now a.k (omega arith) c.piece.ensures) c.write_text.ensures
 

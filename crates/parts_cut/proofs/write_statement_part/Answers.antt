@@ -11,7 +11,6 @@ use Rattle.parts_cut.proofs.write_statement_part.Goals as goal
 
 pub returns-then-k-eq0 : goal.returns-then-k-eq0
 returns-then-k-eq0 c =
-    
     let a = c.args in
     settles (format_allowed a.format) true (cut_statement a.format a.text.now) a.k a.out.now _ _
     (sym c.format_allowed.ensures ∙ c.if-format_allowed.true) refl
@@ -20,7 +19,6 @@ returns-then-k-eq0 c =
 
 pub returns-then-text-le-STATEMENT_ROOM : goal.returns-then-text-le-STATEMENT_ROOM
 returns-then-text-le-STATEMENT_ROOM c =
-    
     let a = c.args in
     settles (format_allowed a.format) true (cut_statement a.format a.text.now) a.k a.out.now _ _
     (sym c.format_allowed.ensures ∙ c.if-format_allowed.true) refl
@@ -34,7 +32,6 @@ piece-t-requires c =
 
 pub returns-then-k-count : goal.returns-then-k-count
 returns-then-k-count c =
-    
     let a = c.args in
     settles (format_allowed a.format) true (cut_statement a.format a.text.now) a.k a.out.now _ _
     (sym c.format_allowed.ensures ∙ c.if-format_allowed.true) refl
@@ -43,7 +40,6 @@ returns-then-k-count c =
 
 pub returns-then-k-count-2 : goal.returns-then-k-count-2
 returns-then-k-count-2 c =
-    
     let a = c.args in
     settles (format_allowed a.format) true (cut_statement a.format a.text.now) a.k a.out.now _ _
     (sym c.format_allowed.ensures ∙ c.if-format_allowed.true) refl
@@ -52,7 +48,6 @@ returns-then-k-count-2 c =
 
 pub returns-then-format_allowed : goal.returns-then-format_allowed
 returns-then-format_allowed c =
-    
     let a = c.args in
     settles (format_allowed a.format) true (cut_statement a.format a.text.now) a.k a.out.now _ _
     (sym c.format_allowed.ensures ∙ c.if-format_allowed.true) refl

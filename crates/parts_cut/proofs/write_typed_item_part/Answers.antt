@@ -11,7 +11,6 @@ use Rattle.parts_cut.proofs.write_typed_item_part.Goals as goal
 pub returns-then-k-eq0 : goal.returns-then-k-eq0
 unfolding allowed
 returns-then-k-eq0 c =
-    
     let a = c.args in
     settles (allowed (Body.item a.class a.kind Url.absent a.text.now)) true (cut_typed_item a.class a.kind Url.absent a.text.now) a.k
     a.out.now _ _ (sym c.item_allowed.ensures ∙ c.if-item_allowed.true) refl
@@ -21,7 +20,6 @@ returns-then-k-eq0 c =
 pub returns-then-item_allowed : goal.returns-then-item_allowed
 unfolding allowed
 returns-then-item_allowed c =
-    
     let a = c.args in
     settles (allowed (Body.item a.class a.kind Url.absent a.text.now)) true (cut_typed_item a.class a.kind Url.absent a.text.now) a.k
     a.out.now _ _ (sym c.item_allowed.ensures ∙ c.if-item_allowed.true) refl

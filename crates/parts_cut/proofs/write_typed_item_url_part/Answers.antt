@@ -22,7 +22,6 @@ returns-then-url-gt-URL_ROOM c =
 pub returns-then-k-eq0 : goal.returns-then-k-eq0
 unfolding allowed
 returns-then-k-eq0 c =
-    
     let a = c.args in
     let url = Url.present a.url.now in
     settles (allowed (Body.item a.class a.kind url a.text.now)) (leb (length a.url.now) 10227)
@@ -34,7 +33,6 @@ returns-then-k-eq0 c =
 pub returns-then-item_allowed : goal.returns-then-item_allowed
 unfolding allowed
 returns-then-item_allowed c =
-    
     let a = c.args in
     let url = Url.present a.url.now in
     settles (allowed (Body.item a.class a.kind url a.text.now)) (leb (length a.url.now) 10227)

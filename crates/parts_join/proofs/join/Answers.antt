@@ -7,7 +7,6 @@ use Rattle.parts_join.proofs.join.Goals as goal
 
 pub returns-then-accepted : goal.returns-then-accepted
 returns-then-accepted c =
-    
     let s = c.args in
     let m : Message = message s.instruction (body_in s.bytes.now s.places) in
     let t = c.part-part.ensures ∙ c.text_in.ensures s.bytes.now in
@@ -17,7 +16,6 @@ returns-then-accepted c =
 
 pub returns-else-accepted : goal.returns-else-accepted
 returns-else-accepted c =
-    
     let s = c.args in
     let m : Message = message s.instruction (body_in s.bytes.now s.places) in
     let t = c.part-part.ensures ∙ c.text_in.ensures s.bytes.now in

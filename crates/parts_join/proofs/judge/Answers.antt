@@ -5,7 +5,6 @@ pub returns-then-allowed_in : goal.returns-then-allowed_in
 unfolding joined
 returns-then-allowed_in c =
     λ s h.
-    
     simp (← c.allowed_in.ensures s, c.if-allowed_in.true, ← c.role_in-role.ensures s, ← c.label_in.ensures s, ← h, c.joined_as.ensures)
 
 pub returns-else-allowed_in : goal.returns-else-allowed_in

@@ -15,7 +15,6 @@ loop-i-init c =
 pub returns-then-e-instruction : goal.returns-then-e-instruction
 unfolding find_of
 returns-then-e-instruction c =
-    
     let n : length c.table-t.result ≡ 46 = ap length c.loop-i.invariant.1.0
     ∙ rows_46 in sym (c.loop-i.invariant.1.1 ∙ hit c.args.instruction _ c.table-t.result c.loop-i.i
     (omega arith) c.if-e-instruction.true)
@@ -23,7 +22,6 @@ returns-then-e-instruction c =
 pub loop-i-preserved : goal.loop-i-preserved
 unfolding find_of
 loop-i-preserved c =
-    
     let n : length c.table-t.result ≡ 46 = ap length c.loop-i.invariant.1.0
     ∙ rows_46 in (
       search rules,

@@ -17,7 +17,6 @@ loop-i-init c =
 pub returns-then-shape_number : goal.returns-then-shape_number
 unfolding find_of
 returns-then-shape_number c =
-    
     let n : length c.table-t.result ≡ 46 = ap length c.loop-i.invariant.1.0
     ∙ rows_46 in simp (
       c.loop-i.invariant.1.1 ∙ hit c.args.instruction _ c.table-t.result c.loop-i.i (omega arith)
@@ -30,7 +29,6 @@ returns-then-shape_number c =
 pub returns-then-e-instruction : goal.returns-then-e-instruction
 unfolding find_of
 returns-then-e-instruction c =
-    
     let n : length c.table-t.result ≡ 46 = ap length c.loop-i.invariant.1.0
     ∙ rows_46 in simp (
       c.loop-i.invariant.1.1 ∙ hit c.args.instruction _ c.table-t.result c.loop-i.i (omega arith)
@@ -43,7 +41,6 @@ returns-then-e-instruction c =
 pub loop-i-preserved : goal.loop-i-preserved
 unfolding find_of
 loop-i-preserved c =
-    
     let n : length c.table-t.result ≡ 46 = ap length c.loop-i.invariant.1.0
     ∙ rows_46 in (
       search rules,

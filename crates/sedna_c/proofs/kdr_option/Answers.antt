@@ -21,7 +21,6 @@ returns-in-Missing c =
 
 pub returns-else-fields-lt3 : goal.returns-else-fields-lt3
 returns-else-fields-lt3 c =
-    
     let d = c.args.fields.now in
     rw (← c.option_at.ensures, c.in-At.is, le-ltb _ _ c.if-fields-lt3.false)
     (record { answers = refl; leaves = front-sets d (_ ∷ _ ∷ _ ∷ []) (omega arith) })

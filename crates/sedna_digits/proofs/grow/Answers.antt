@@ -18,6 +18,7 @@ pub returns : goal.returns
 returns c =
     let a = c.args in
     let h : 9223372036854775808 < a.n * 10 + a.digit = elim c.if-n-eq922337203685477580.branch [
-      then-n-eq922337203685477580+else-digit-le8 w ↦ omega arith | else-n-eq922337203685477580 w ↦ omega arith
+      | then-n-eq922337203685477580+else-digit-le8 w ↦ omega arith
+      | else-n-eq922337203685477580 w ↦ omega arith
     ] in
     sym (grown_great a.n a.digit h)

@@ -9,14 +9,12 @@ returns-then-end-at-lt4 c =
 
 pub returns-in-Refused : goal.returns-in-Refused
 returns-in-Refused c =
-    
     let a = c.args in
     rw (coded-form a.s.now a.at a.end c.requires.1)
     (simp (le-ltb _ _ c.if-end-at-lt4.false, ← c.get_int-code.ensures.0, ← c.last_string.ensures, c.in-Refused.is))
 
 pub returns-in-At : goal.returns-in-At
 returns-in-At c =
-    
     let a = c.args in
     rw (coded-form a.s.now a.at a.end c.requires.1)
     (simp (le-ltb _ _ c.if-end-at-lt4.false, ← c.get_int-code.ensures.0, ← c.last_string.ensures, c.in-At.is))

@@ -15,7 +15,6 @@ returns-then-end-at-2 c =
 
 pub returns-then-end-at-3 : goal.returns-then-end-at-3
 returns-then-end-at-3 c =
-    
     let a = c.args in
     rw (item-form a.s.now a.at a.end c.requires.1)
     (simp (
@@ -31,7 +30,6 @@ returns-then-end-at-3 c =
 
 pub returns-then-type_allowed : goal.returns-then-type_allowed
 returns-then-type_allowed c =
-    
     let a = c.args in
     rw (item-form a.s.now a.at a.end c.requires.1)
     (simp (
@@ -49,7 +47,6 @@ returns-then-type_allowed c =
 
 pub returns-else-type_allowed : goal.returns-else-type_allowed
 returns-else-type_allowed c =
-    
     let a = c.args in
     rw (item-form a.s.now a.at a.end c.requires.1)
     (simp (

@@ -7,7 +7,6 @@ returns-then-bytes-lt8 c =
 
 pub returns-then-n-gt10240 : goal.returns-then-n-gt10240
 returns-then-n-gt10240 c =
-    
     simp (
       le-ltb _ _ c.if-bytes-lt8.false,
       c.in-Known.is,
@@ -25,7 +24,6 @@ returns-in-Unknown c =
 
 pub returns-else-n-gt10240 : goal.returns-else-n-gt10240
 returns-else-n-gt10240 c =
-    
     simp (
       le-ltb _ _ c.if-bytes-lt8.false,
       c.in-Known.is,

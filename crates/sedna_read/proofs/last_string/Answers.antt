@@ -16,12 +16,10 @@ returns-in-Refused c =
 
 pub returns-then-p-end : goal.returns-then-p-end
 returns-then-p-end c =
-    
     let a = c.args in
     sym (last-whole a.s.now a.at a.end c.requires.1 _ (sym c.string_at.ensures.0 ∙ c.in-At.is) c.if-p-end.true)
 
 pub returns-else-p-end : goal.returns-else-p-end
 returns-else-p-end c =
-    
     let a = c.args in
     sym (last_more a.s.now a.at a.end c.requires.1 _ (sym c.string_at.ensures.0 ∙ c.in-At.is) c.if-p-end.false)

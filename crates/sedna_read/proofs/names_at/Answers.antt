@@ -18,20 +18,17 @@ last_string-requires c =
 
 pub returns-in-Refused : goal.returns-in-Refused
 returns-in-Refused c =
-    
     let a = c.args in
     rw (names-form a.s.now a.at a.end c.requires.1 c.requires.0 a.major a.minor) (simp (← c.string_at.ensures.0, c.in-Refused.is))
 
 pub returns-in-Refused-last_string : goal.returns-in-Refused-last_string
 returns-in-Refused-last_string c =
-    
     let a = c.args in
     rw (names-form a.s.now a.at a.end c.requires.1 c.requires.0 a.major a.minor)
     (simp (← c.string_at.ensures.0, c.in-At.is, ← c.last_string.ensures, c.in-Refused-last_string.is))
 
 pub returns-in-At-last_string : goal.returns-in-At-last_string
 returns-in-At-last_string c =
-    
     let a = c.args in
     rw (names-form a.s.now a.at a.end c.requires.1 c.requires.0 a.major a.minor)
     (simp (← c.string_at.ensures.0, c.in-At.is, ← c.last_string.ensures, c.in-At-last_string.is))

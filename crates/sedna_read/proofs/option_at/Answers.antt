@@ -24,7 +24,6 @@ loop-i-init c =
 
 pub returns-in-Refused : goal.returns-in-Refused
 returns-in-Refused c =
-    
     let a = c.args in
     sym (ap (option_at a.k a.pairs.start) (clipped a.bytes.now a.pairs.start a.pairs.len c.end_of-end.result c.if-n-start.false c.end_of-end.ensures)
     ∙ c.loop-i.invariant.1.1.1 ∙ option-refused a.bytes.now c.loop-i.p c.end_of-end.result a.k
@@ -33,12 +32,10 @@ returns-in-Refused c =
 
 pub overflow_add-p : goal.overflow_add-p
 overflow_add-p c =
-    
     let w = subst (PairWithin c.loop-i.p c.end_of-end.result) c.in-At.is c.pair_at.ensures.1 in omega arith
 
 pub loop-i-preserved : goal.loop-i-preserved
 loop-i-preserved c =
-    
     let w = subst (PairWithin c.loop-i.p c.end_of-end.result) c.in-At.is c.pair_at.ensures.1 in
     let q = pair-next c.args.bytes.now c.loop-i.p c.end_of-end.result c.loop-i.invariant.1.0 _ _
     (sym c.pair_at.ensures.0 ∙ c.in-At.is) in
@@ -61,7 +58,6 @@ loop-i-preserved c =
 
 pub returns-in-Refused-pair_at : goal.returns-in-Refused-pair_at
 returns-in-Refused-pair_at c =
-    
     let a = c.args in
     sym (ap (option_at a.k a.pairs.start) (clipped a.bytes.now a.pairs.start a.pairs.len c.end_of-end.result c.if-n-start.false c.end_of-end.ensures)
     ∙ c.loop-i.invariant.1.1.1 ∙ option_here a.bytes.now c.loop-i.p c.end_of-end.result a.k
@@ -72,7 +68,6 @@ returns-in-Refused-pair_at c =
 
 pub returns-in-At-pair_at : goal.returns-in-At-pair_at
 returns-in-At-pair_at c =
-    
     let a = c.args in
     sym (ap (option_at a.k a.pairs.start)
     (clipped a.bytes.now a.pairs.start a.pairs.len c.end_of-end.result c.if-n-start.false c.end_of-end.ensures) ∙ c.loop-i.invariant.1.1.1

@@ -12,7 +12,6 @@ returns-then-end-at-lt4 c =
 
 pub returns-in-Refused : goal.returns-in-Refused
 returns-in-Refused c =
-    
     let a = c.args in (
       ap (pair_place a.at)
           (sym (pair-refused a.s.now a.at a.end c.requires.1 c.if-end-at-lt4.false _
@@ -22,7 +21,6 @@ returns-in-Refused c =
 
 pub returns-in-At : goal.returns-in-At
 returns-in-At c =
-    
     let a = c.args in
     let w = subst (Within (a.at + 4) a.end) c.in-At.is c.string_at.ensures.1 in (
       rw c.get_int-id.ensures.0

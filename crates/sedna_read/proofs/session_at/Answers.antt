@@ -14,7 +14,6 @@ returns-then-end-at-2 c =
 
 pub returns-then-version_allowed : goal.returns-then-version_allowed
 returns-then-version_allowed c =
-    
     let a = c.args in
     rw (session-form a.s.now a.at a.end c.requires.1)
     (simp (
@@ -28,7 +27,6 @@ returns-then-version_allowed c =
 
 pub returns-else-version_allowed : goal.returns-else-version_allowed
 returns-else-version_allowed c =
-    
     let a = c.args in
     rw (session-form a.s.now a.at a.end c.requires.1)
     (simp (lt-ltb _ _ c.if-end-at.false, lt-ltb _ _ c.if-end-at-2.false, ← c.version_allowed.ensures, c.if-version_allowed.false))

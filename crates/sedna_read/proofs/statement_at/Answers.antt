@@ -9,14 +9,12 @@ returns-then-end-at c =
 
 pub returns-in-Refused : goal.returns-in-Refused
 returns-in-Refused c =
-    
     let a = c.args in
     rw (statement-form a.s.now a.at a.end c.requires.1)
     (simp (lt-ltb _ _ c.if-end-at.false, ← c.format_allowed.ensures, c.if-format_allowed.true, ← c.last_string.ensures, c.in-Refused.is))
 
 pub returns-in-At : goal.returns-in-At
 returns-in-At c =
-    
     let a = c.args in
     rw (statement-form a.s.now a.at a.end c.requires.1)
     (simp (lt-ltb _ _ c.if-end-at.false, ← c.format_allowed.ensures, c.if-format_allowed.true, ← c.last_string.ensures, c.in-At.is))

@@ -25,7 +25,6 @@ returns-then-end-at-lt5 c =
 
 pub returns-then-end-at-2 : goal.returns-then-end-at-2
 returns-then-end-at-2 c =
-    
     let a = c.args in (
       ap (string_place a.at)
           (sym (string-cut a.s.now a.at a.end c.requires.1 c.if-end-at.false c.if-s-at-ne0.false c.if-end-at-lt5.false
@@ -35,7 +34,6 @@ returns-then-end-at-2 c =
 
 pub returns : goal.returns
 returns c =
-    
     let a = c.args in (
       rw c.get_int-n.ensures.0
           (sym (string_placed a.s.now a.at a.end c.requires.1 c.if-end-at.false c.if-s-at-ne0.false c.if-end-at-lt5.false

@@ -23,14 +23,12 @@ part_at-requires-in-At c =
 
 pub returns-in-Refused : goal.returns-in-Refused
 returns-in-Refused c =
-    
     let a = c.args in
     rw (c.if-flag-eq1.true, url-some a.s.now a.at a.end c.requires.1 c.requires.0 a.class a.kind)
     (simp (← c.string_at.ensures.0, c.in-Refused.is))
 
 pub returns-in-At : goal.returns-in-At
 returns-in-At c =
-    
     let a = c.args in
     rw (c.if-flag-eq1.true, url-some a.s.now a.at a.end c.requires.1 c.requires.0 a.class a.kind)
     (simp (← c.string_at.ensures.0, c.in-At.is, c.part_at-in-At.ensures))

@@ -33,7 +33,7 @@ returns-in-24 c =
     rw
     c.if-class-ne1.false
     (c.whole.ensures ∙ sym (elim c.in-24-1.branch [
-      in-24-1 w ↦ integer a.kind a.text.now (omega arith)
+      | in-24-1 w ↦ integer a.kind a.text.now (omega arith)
       | in_default+else-kind-lt50+then-kind-lt62 w ↦ derived a.kind a.text.now (omega arith) (omega arith)
     ]))
 

@@ -9,7 +9,6 @@ use Rattle.sedna_write.proofs.begin.Goals as goal
 
 pub overflow_cast-n : goal.overflow_cast-n
 overflow_cast-n c =
-    
     let a = c.args in
     let f = counts a.instruction a.shape a.allowed a.n (length a.out.now) _ (sym c.judge-w.ensures ∙ c.in-Count.is) in
     record { fits = omega arith }
@@ -21,7 +20,6 @@ returns-in-Refused c =
 pub returns-in-Count : goal.returns-in-Count
 unfolding int
 returns-in-Count c =
-    
     let a = c.args in
     let q = sym c.in-Count.is ∙ c.judge-w.ensures in
     let f = counts a.instruction a.shape a.allowed a.n (length a.out.now) _ (sym q) in

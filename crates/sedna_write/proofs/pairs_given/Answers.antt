@@ -22,12 +22,11 @@ returns-then-rest-n c =
     c.loop-k.rest c.loop-k-test.true c.if-rest-n.true)
 
 pub loop-k-preserved : goal.loop-k-preserved
-loop-k-preserved c =
-    (
-      omega arith,
-      c.loop-k.invariant.1 ∙ given-next c.args.lengths.now c.loop-k.k
-          c.loop-k.rest c.loop-k-test.true c.if-rest-n.false,
-    )
+loop-k-preserved c = (
+  omega arith,
+  c.loop-k.invariant.1 ∙ given-next c.args.lengths.now c.loop-k.k
+      c.loop-k.rest c.loop-k-test.true c.if-rest-n.false,
+)
 
 pub returns : goal.returns
 returns c =

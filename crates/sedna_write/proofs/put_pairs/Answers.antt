@@ -12,7 +12,6 @@ use Rattle.sedna_write.proofs.put_pairs.Goals as goal
 
 pub loop-k-init : goal.loop-k-init
 loop-k-init c =
-    
     let a = c.args in
     (refl, search rules, omega arith, start a.out.now 8 (pairs_bytes (pairs_of a.ids.now a.lengths.now a.values.now)) c.requires.room)
 
@@ -30,7 +29,6 @@ slice_bounds-put_pair-end c =
 
 pub put_pair-requires : goal.put_pair-requires
 put_pair-requires c =
-    
     let l = c.loop-k in
     let a = c.args in
     let s = sum-next a.lengths.now l.k (omega arith) in
@@ -40,7 +38,6 @@ put_pair-requires c =
 
 pub overflow_add-at : goal.overflow_add-at
 overflow_add-at c =
-    
     let l = c.loop-k in
     let a = c.args in
     let s = sum-next a.lengths.now l.k (omega arith) in
@@ -49,7 +46,6 @@ overflow_add-at c =
 
 pub overflow_add-at-in-loop-k : goal.overflow_add-at-in-loop-k
 overflow_add-at-in-loop-k c =
-    
     let l = c.loop-k in
     let a = c.args in
     let s = sum-next a.lengths.now l.k (omega arith) in
@@ -58,7 +54,6 @@ overflow_add-at-in-loop-k c =
 
 pub loop-k-preserved : goal.loop-k-preserved
 loop-k-preserved c =
-    
     let l = c.loop-k in
     let a = c.args in
     let p = c.put_pair in
@@ -73,7 +68,6 @@ shape_of-out c =
 pub returns : goal.returns
 returns c =
     let l = c.loop-k in
-    
     let a = c.args in
     ahead-end a.ids.now a.lengths.now (drop l.from a.values.now) l.k c.loop-k-test.false l.invariant.3
     ∙ sym (put_at-fits a.out.now 8 (pairs_bytes (pairs_of a.ids.now a.lengths.now a.values.now)) c.requires.room)

@@ -11,7 +11,6 @@ use Rattle.sedna_write.proofs.put_string.Goals as goal
 pub returns : goal.returns
 unfolding string int
 returns c =
-    
     let args = c.args in
     let t = args.text.now in
     let d = args.out.now in

@@ -11,28 +11,24 @@ use Rattle.sedna_write.proofs.write_item_url.Goals as goal
 
 pub put_string-requires : goal.put_string-requires
 put_string-requires c =
-    
     let f = counted c.begin-w.ensures c.in-Count.is in
     let n = c.capped-n.ensures in
     (omega arith, omega arith)
 
 pub overflow_add-url : goal.overflow_add-url
 overflow_add-url c =
-    
     let f = counted c.begin-w.ensures c.in-Count.is in
     let n = c.capped-n.ensures in
     omega arith
 
 pub put_string-requires-in-Count : goal.put_string-requires-in-Count
 put_string-requires-in-Count c =
-    
     let f = counted c.begin-w.ensures c.in-Count.is in
     let n = c.capped-n.ensures in
     (omega arith, omega arith)
 
 pub returns-in-Refused : goal.returns-in-Refused
 returns-in-Refused c =
-    
     let a = c.args in
     let h = item-url_head a.class a.kind a.url.now a.part.now c.item_allowed-allowed.ensures c.capped-n.ensures c.begin-w.ensures in
     refused a.out.now (message a.instruction (Body.item a.class a.kind (Url.present a.url.now) a.part.now)) h c.in-Refused.is
@@ -40,9 +36,7 @@ returns-in-Refused c =
 pub returns-in-Count : goal.returns-in-Count
 unfolding body_bytes url_bytes string int
 returns-in-Count c =
-    
     let q = c.in-Count.is in
-    
     let a = c.args in
     let h = item-url_head a.class a.kind a.url.now a.part.now c.item_allowed-allowed.ensures c.capped-n.ensures c.begin-w.ensures in
     let z = body-ahead a.out.now (message a.instruction (Body.item a.class a.kind (Url.present a.url.now) a.part.now)) h q in

@@ -9,7 +9,6 @@ use Rattle.sedna_write.proofs.write_options.Goals as goal
 pub put_pairs-requires : goal.put_pairs-requires
 unfolding body_bytes
 put_pairs-requires c =
-    
     let a = c.args in
     let h = options_head a.ids.now a.lengths.now a.values.now c.pairs_given-allowed.ensures c.capped.ensures
     c.capped-2.ensures c.begin-w.ensures in
@@ -18,7 +17,6 @@ put_pairs-requires c =
 pub returns-in-Refused : goal.returns-in-Refused
 unfolding body_bytes
 returns-in-Refused c =
-    
     let a = c.args in
     let h = options_head a.ids.now a.lengths.now a.values.now c.pairs_given-allowed.ensures c.capped.ensures
     c.capped-2.ensures c.begin-w.ensures in
@@ -27,9 +25,7 @@ returns-in-Refused c =
 pub returns-in-Count : goal.returns-in-Count
 unfolding body_bytes
 returns-in-Count c =
-    
     let q = c.in-Count.is in
-    
     let a = c.args in
     let h = options_head a.ids.now a.lengths.now a.values.now c.pairs_given-allowed.ensures c.capped.ensures
     c.capped-2.ensures c.begin-w.ensures in

@@ -8,13 +8,11 @@ use Rattle.sedna_write.proofs.write_statement.Goals as goal
 
 pub put_string-requires : goal.put_string-requires
 put_string-requires c =
-    
     let f = counted c.begin_text-w.ensures c.in-Count.is in
     (omega arith, omega arith)
 
 pub returns-in-Refused : goal.returns-in-Refused
 returns-in-Refused c =
-    
     let a = c.args in
     let h = statement_head a.format a.text.now c.format_allowed-allowed.ensures c.begin_text-w.ensures in
     refused a.out.now (message a.instruction (Body.statement a.format a.text.now)) h c.in-Refused.is
@@ -22,9 +20,7 @@ returns-in-Refused c =
 pub returns-in-Count : goal.returns-in-Count
 unfolding body_bytes
 returns-in-Count c =
-    
     let q = c.in-Count.is in
-    
     let a = c.args in
     let h = statement_head a.format a.text.now c.format_allowed-allowed.ensures c.begin_text-w.ensures in
     let z = body-ahead a.out.now (message a.instruction (Body.statement a.format a.text.now)) h q in

@@ -36,8 +36,6 @@ slice_bounds-read_full-end c =
 
 pub overflow_add-result : goal.overflow_add-result
 overflow_add-result c =
-    
-    
     let d = c.args.buffer.now in
     let h = c.read_head in
     let w = within _ h.ensures c.in-Bytes.is in
@@ -55,8 +53,6 @@ returns-in-Damaged c =
 
 pub returns-in-Record : goal.returns-in-Record
 returns-in-Record c =
-    
-    
     let d = c.args.buffer.now in
     let h = c.read_head in
     let w = within _ h.ensures c.in-Bytes.is in

@@ -4,7 +4,6 @@ use Rattle.transcript.proofs.say_next_line.Goals as goal
 
 pub returns-then-say : goal.returns-then-say
 returns-then-say c =
-    
     let a = c.args in
     goes_on_lem 38 a.number a.session (front a.bytes.now) c.put_next_line.ensures.answers
     c.in-Record.is

@@ -11,5 +11,4 @@ returns-in-Refused c =
 pub returns-in-Is : goal.returns-in-Is
 unfolding outcome
 returns-in-Is c =
-    
     rw (← c.value_of.ensures, c.in-Is.is) c.tell.ensures

@@ -8,7 +8,6 @@ use Rattle.value_c.proofs.put.Goals as goal
 
 pub returns : goal.returns
 returns c =
-    
     let n = c.args.n in
     record {
       answers = refl;

@@ -14,10 +14,9 @@ returns-then-n-at c =
     (sym (int_at-short c.args.s.now c.args.at (omega arith)), search rules)
 
 pub returns : goal.returns
-returns c =
-    (
-      sym (int_at-there c.args.s.now
-          c.args.at (omega arith)
-          ∙ simp (← c.wide.ensures.0, ← c.wide-2.ensures.0, ← c.wide-3.ensures.0, ← c.wide-4.ensures.0)),
-      omega arith,
-    )
+returns c = (
+  sym (int_at-there c.args.s.now
+      c.args.at (omega arith)
+      ∙ simp (← c.wide.ensures.0, ← c.wide-2.ensures.0, ← c.wide-3.ensures.0, ← c.wide-4.ensures.0)),
+  omega arith,
+)

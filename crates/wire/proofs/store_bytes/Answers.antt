@@ -20,25 +20,24 @@ store_block-requires c =
     c.least.result (omega arith) in (omega arith, omega arith)
 
 pub loop-from-preserved : goal.loop-from-preserved
-loop-from-preserved c =
-    (
-      c.store_block.auto.out ∙ c.loop-from.invariant.0,
-      (
-        omega arith,
-        c.store_block.ensures ∙ ap
-            (λ (l : List ℕ). splice l (c.args.at + c.loop-from.from)
-            (take (c.loop-from.from + c.least.result - c.loop-from.from)
-            (drop c.loop-from.from
-            c.args.src.now)))
-            c.loop-from.invariant.1.1
-            ∙ splice-next c.args.out.now
-            c.args.at
-            c.args.src.now
-            c.loop-from.from
-            (c.loop-from.from + c.least.result) (omega arith) (omega arith)
-            c.requires,
-      ),
-    )
+loop-from-preserved c = (
+  c.store_block.auto.out ∙ c.loop-from.invariant.0,
+  (
+    omega arith,
+    c.store_block.ensures ∙ ap
+        (λ (l : List ℕ). splice l (c.args.at + c.loop-from.from)
+        (take (c.loop-from.from + c.least.result - c.loop-from.from)
+        (drop c.loop-from.from
+        c.args.src.now)))
+        c.loop-from.invariant.1.1
+        ∙ splice-next c.args.out.now
+        c.args.at
+        c.args.src.now
+        c.loop-from.from
+        (c.loop-from.from + c.least.result) (omega arith) (omega arith)
+        c.requires,
+  ),
+)
 
 pub shape_of-out : goal.shape_of-out
 shape_of-out c =

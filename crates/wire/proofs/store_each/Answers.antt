@@ -16,8 +16,7 @@ loop-j-init c =
 
 pub loop-j-preserved : goal.loop-j-preserved
 unfolding splice
-loop-j-preserved c =
-    (
+loop-j-preserved c = (
   ap (λ (l : List ℕ). set l (c.args.at + c.loop-j.j)
       (get_or c.args.src.now c.loop-j.j 0)) c.loop-j.invariant.0
       ∙ paste-suc c.args.out.now c.args.at c.args.src.now c.loop-j.j 0

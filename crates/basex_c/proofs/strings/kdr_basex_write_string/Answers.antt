@@ -5,6 +5,6 @@ use Rattle.basex_c.proofs.strings.kdr_basex_write_string.Goals as goal
 pub returns : goal.returns
 returns c =
     record {
-  answers = c.counted_code.ensures ∙ ap counted_code c.write_string.ensures.answers;
-  leaves = c.write_string.ensures.leaves;
-}
+      answers = c.counted_code.ensures ∙ ap counted_code c.write_string.ensures.answers;
+      leaves = c.write_string.ensures.leaves;
+    }

@@ -70,5 +70,5 @@ returns c =
     record {
       answers = omega arith;
       leaves = last (ahead-4 a.first.now a.second.now a.third.now a.fourth.now a.kind a.n a.out.now c.requires c.put_byte.ensures c.put_string_if-b.ensures c.put_string_if-c.ensures c.put_string_if-d.ensures)
-        c.put_string_if.ensures.leaves;
+          c.put_string_if.ensures.leaves;
     }

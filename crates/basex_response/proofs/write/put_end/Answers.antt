@@ -30,17 +30,23 @@ pub put_ahead-next-requires : goal.put_ahead-next-requires
 put_ahead-next-requires c =
     let a = c.args in
     let f = fits a.reply a.first.now a.second.now a.status a.error.now c.strings_ahead-ahead.ensures c.is_listed-list.ensures c.strings_behind-behind.ensures a.at
-        (sym c.end_room-room.ensures ∙ c.in-Count.is) in
-    omega (arith, length-append (ahead_parts c.strings_ahead-ahead.result a.first.now a.second.now)
-    (last_parts c.is_listed-list.result a.status c.strings_behind-behind.result a.error.now))
+    (sym c.end_room-room.ensures ∙ c.in-Count.is) in
+    omega (
+      arith,
+      length-append (ahead_parts c.strings_ahead-ahead.result a.first.now a.second.now)
+          (last_parts c.is_listed-list.result a.status c.strings_behind-behind.result a.error.now),
+    )
 
 pub put_last-requires : goal.put_last-requires
 put_last-requires c =
     let a = c.args in
     let f = fits a.reply a.first.now a.second.now a.status a.error.now c.strings_ahead-ahead.ensures c.is_listed-list.ensures c.strings_behind-behind.ensures a.at
-        (sym c.end_room-room.ensures ∙ c.in-Count.is) in
-    omega (arith, length-append (ahead_parts c.strings_ahead-ahead.result a.first.now a.second.now)
-    (last_parts c.is_listed-list.result a.status c.strings_behind-behind.result a.error.now))
+    (sym c.end_room-room.ensures ∙ c.in-Count.is) in
+    omega (
+      arith,
+      length-append (ahead_parts c.strings_ahead-ahead.result a.first.now a.second.now)
+          (last_parts c.is_listed-list.result a.status c.strings_behind-behind.result a.error.now),
+    )
 
 pub returns-in-Refused : goal.returns-in-Refused
 returns-in-Refused c =

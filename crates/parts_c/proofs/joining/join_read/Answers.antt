@@ -7,8 +7,6 @@ returns-in-Refused c =
 
 pub returns-in-Message : goal.returns-in-Message
 returns-in-Message c =
-    
-    
     rw (c.in-Message.is, ← c.join-j.ensures.answers) (record {
       answers = c.answer_code.ensures;
       leaves_assembly = c.put.ensures;

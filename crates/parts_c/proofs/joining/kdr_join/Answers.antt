@@ -24,15 +24,11 @@ returns-then-told-lt4 c =
 pub returns-in-Nothing : goal.returns-in-Nothing
 unfolding outcome
 returns-in-Nothing c =
-    
     rw (le-ltb _ _ c.if-assembly-lt7.false, le-ltb _ _ c.if-told-lt4.false, ← c.meant_by.ensures, c.in-Nothing.is)
     (untouched ValueNotAllowed c.refusal_code-in-Nothing.ensures)
 
 pub returns-in-Is : goal.returns-in-Is
 unfolding outcome
 returns-in-Is c =
-    
-    
-    
     rw (le-ltb _ _ c.if-assembly-lt7.false, le-ltb _ _ c.if-told-lt4.false, ← c.meant_by.ensures, c.in-Is.is, ← c.read_from-reading.ensures)
     c.join_read.ensures

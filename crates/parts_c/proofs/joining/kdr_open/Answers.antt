@@ -20,8 +20,6 @@ returns-then-what-gt3 c =
 
 pub returns : goal.returns
 returns c =
-    
-    
     let d = c.args.assembly.now in
     rw (le-ltb _ _ c.if-assembly-lt7.false, ne_eqb _ _ c.if-what-eq0.false, le-ltb _ _ c.if-what-gt3.false) (record {
       answers = refl;

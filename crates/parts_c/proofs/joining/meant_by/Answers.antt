@@ -25,20 +25,16 @@ returns-then-format-gt255 c =
 pub returns-then-class-gt255 : goal.returns-then-class-gt255
 unfolding meant_by
 returns-then-class-gt255 c =
-    
     rw (le-ltb _ _ c.if-what-gt3.false, le-ltb _ _ c.if-begun-gt1.false, le-ltb _ _ c.if-overflowed-gt1.false, le-ltb _ _ c.if-format-gt255.false, lt-ltb _ _ c.if-class-gt255.true)
 
 pub returns-then-kind-gt255 : goal.returns-then-kind-gt255
 unfolding meant_by
 returns-then-kind-gt255 c =
-    
     rw (le-ltb _ _ c.if-what-gt3.false, le-ltb _ _ c.if-begun-gt1.false, le-ltb _ _ c.if-overflowed-gt1.false)
     (rw (le-ltb _ _ c.if-format-gt255.false, le-ltb _ _ c.if-class-gt255.false, lt-ltb _ _ c.if-kind-gt255.true))
 
 pub returns : goal.returns
 unfolding meant_by
 returns c =
-    
-    
     rw (le-ltb _ _ c.if-what-gt3.false, le-ltb _ _ c.if-begun-gt1.false, le-ltb _ _ c.if-overflowed-gt1.false)
     (rw (le-ltb _ _ c.if-format-gt255.false, le-ltb _ _ c.if-class-gt255.false, le-ltb _ _ c.if-kind-gt255.false, ← c.open_of.ensures))

@@ -30,6 +30,5 @@ bounds-assembly-6 c =
 
 pub returns : goal.returns
 returns c =
-    
     rw (← c.open_number-what.ensures, ← c.flag-begun.ensures, ← c.flag-overflowed.ensures)
     (front-sets c.args.assembly.now (_ ∷ _ ∷ _ ∷ _ ∷ _ ∷ _ ∷ _ ∷ []) c.requires)

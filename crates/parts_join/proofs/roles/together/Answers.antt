@@ -10,5 +10,4 @@ pub returns-in-Known : goal.returns-in-Known
 unfolding together
 returns-in-Known c =
     λ s.
-    
     simp (← c.find.ensures, c.in-Known.is, c.shape_number.ensures, c.shape_number-in-Known.ensures, c.shape_in.ensures s)

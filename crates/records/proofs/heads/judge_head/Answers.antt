@@ -20,44 +20,44 @@ pub returns-then-kind-eq1 : goal.returns-then-kind-eq1
 unfolding head_of
 returns-then-kind-eq1 c =
     record {
-  answers = simp (
-    le-ltb _ _ c.if-bytes-lt6.false,
-    ← c.payload_length-len.ensures,
-    le-ltb _ _ c.if-len-gt10248.false,
-    ← c.kind-kind.ensures,
-    eq-eqb _ _ c.if-kind-eq1.true,
-  );
-  bounded = search rules;
-}
+      answers = simp (
+        le-ltb _ _ c.if-bytes-lt6.false,
+        ← c.payload_length-len.ensures,
+        le-ltb _ _ c.if-len-gt10248.false,
+        ← c.kind-kind.ensures,
+        eq-eqb _ _ c.if-kind-eq1.true,
+      );
+      bounded = search rules;
+    }
 
 pub returns-then-kind-eq2 : goal.returns-then-kind-eq2
 unfolding head_of
 returns-then-kind-eq2 c =
     record {
-  answers = simp (
-    le-ltb _ _ c.if-bytes-lt6.false,
-    ← c.payload_length-len.ensures,
-    le-ltb _ _
-        c.if-len-gt10248.false,
-    ← c.kind-kind.ensures,
-    ne_eqb _ _ c.if-kind-eq1.false,
-    eq-eqb _ _ c.if-kind-eq2.true,
-  );
-  bounded = search rules;
-}
+      answers = simp (
+        le-ltb _ _ c.if-bytes-lt6.false,
+        ← c.payload_length-len.ensures,
+        le-ltb _ _
+            c.if-len-gt10248.false,
+        ← c.kind-kind.ensures,
+        ne_eqb _ _ c.if-kind-eq1.false,
+        eq-eqb _ _ c.if-kind-eq2.true,
+      );
+      bounded = search rules;
+    }
 
 pub returns : goal.returns
 unfolding head_of
 returns c =
     record {
-  answers = simp (
-    le-ltb _ _ c.if-bytes-lt6.false,
-    ← c.payload_length-len.ensures,
-    le-ltb _ _
-        c.if-len-gt10248.false,
-    ← c.kind-kind.ensures,
-    ne_eqb _ _ c.if-kind-eq1.false,
-    ne_eqb _ _ c.if-kind-eq2.false,
-  );
-  bounded = tt;
-}
+      answers = simp (
+        le-ltb _ _ c.if-bytes-lt6.false,
+        ← c.payload_length-len.ensures,
+        le-ltb _ _
+            c.if-len-gt10248.false,
+        ← c.kind-kind.ensures,
+        ne_eqb _ _ c.if-kind-eq1.false,
+        ne_eqb _ _ c.if-kind-eq2.false,
+      );
+      bounded = tt;
+    }

@@ -17,7 +17,6 @@ overflow_sub-n c =
 
 pub returns-then-n-start : goal.returns-then-n-start
 returns-then-n-start c =
-    
     let a = c.args in
     next-cut a.bytes.now a.at c.if-n-at.false
     (sym c.judge_head.ensures.answers ∙ c.in-Record.is) c.if-n-start.true
@@ -29,7 +28,6 @@ returns-in-Damaged c =
 
 pub returns-else-n-start : goal.returns-else-n-start
 returns-else-n-start c =
-    
     let a = c.args in
     next-whole a.bytes.now a.at c.if-n-at.false
     (sym c.judge_head.ensures.answers ∙ c.in-Record.is) c.if-n-start.false

@@ -16,7 +16,7 @@ loop-rest-preserved c =
 pub returns : goal.returns
 returns c =
     let l = ap length (decimal-one c.loop-rest.rest c.loop-rest-test.false) in record {
-  answers = omega arith;
-  short = omega
-      (arith, length_most 19 c.args.n (omega arith));
-}
+      answers = omega arith;
+      short = omega
+          (arith, length_most 19 c.args.n (omega arith));
+    }

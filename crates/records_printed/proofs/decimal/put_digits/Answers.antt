@@ -11,8 +11,7 @@ loop-i-init c =
     (refl, (search rules, none_written c.args.out.now c.args.at c.args.n c.args.count c.requires.counted))
 
 pub loop-i-preserved : goal.loop-i-preserved
-loop-i-preserved c =
-    (
+loop-i-preserved c = (
   simp length-set c.loop-i.invariant.0,
   (
     omega arith,

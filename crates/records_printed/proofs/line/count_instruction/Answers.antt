@@ -11,15 +11,15 @@ use Rattle.records_printed.proofs.line.count_instruction.Goals as goal
 pub returns-then-payload-lt4 : goal.returns-then-payload-lt4
 returns-then-payload-lt4 c =
     record {
-  answers = sym (ap length (instruction-none c.args.payload.now c.if-payload-lt4.true));
-  short = search rules;
-}
+      answers = sym (ap length (instruction-none c.args.payload.now c.if-payload-lt4.true));
+      short = search rules;
+    }
 
 pub returns : goal.returns
 returns c =
     record {
-  answers =
-      c.count_digits.ensures.answers ∙ ap (λ (n : ℕ). length (decimal n)) c.get_int.ensures.0
-      ∙ sym (ap length (instruction-some c.args.payload.now c.if-payload-lt4.false));
-  short = let k = c.count_digits.ensures.answers in omega (arith, length_most 9 c.get_int.result (omega arith));
-}
+      answers =
+          c.count_digits.ensures.answers ∙ ap (λ (n : ℕ). length (decimal n)) c.get_int.ensures.0
+          ∙ sym (ap length (instruction-some c.args.payload.now c.if-payload-lt4.false));
+      short = let k = c.count_digits.ensures.answers in omega (arith, length_most 9 c.get_int.result (omega arith));
+    }

@@ -12,24 +12,21 @@ put_digits-requires c =
 pub put_instruction-requires : goal.put_instruction-requires
 put_instruction-requires c =
     record {
-  counted = ap (λ (w : Widths). w.instruction)
-      c.requires.0;
-  there = search rules;
-}
+      counted = ap (λ (w : Widths). w.instruction)
+          c.requires.0;
+      there = search rules;
+    }
 
 pub put_digits-requires-2 : goal.put_digits-requires-2
 put_digits-requires-2 c =
     record {
-  counted = ap (λ (w : Widths). w.answer)
-      c.requires.0;
-  there = search rules;
-}
+      counted = ap (λ (w : Widths). w.answer)
+          c.requires.0;
+      there = search rules;
+    }
 
 pub returns : goal.returns
 returns c =
-    
-    
-    
     let a = c.args in
     fields-put a.out.now a.at a.number (record_of a.side a.payload.now) a.answer a.w c.requires.0 c.requires.1
     c.put_digits.ensures

@@ -15,11 +15,11 @@ returns-then-payload-lt4 c =
 pub put_digits-requires : goal.put_digits-requires
 put_digits-requires c =
     record {
-  counted =
-      c.requires.counted ∙ ap length (instruction-some c.args.payload.now c.if-payload-lt4.false)
-      ∙ ap (λ (n : ℕ). length (decimal n)) (sym c.get_int.ensures.0);
-  there = search rules;
-}
+      counted =
+          c.requires.counted ∙ ap length (instruction-some c.args.payload.now c.if-payload-lt4.false)
+          ∙ ap (λ (n : ℕ). length (decimal n)) (sym c.get_int.ensures.0);
+      there = search rules;
+    }
 
 pub returns : goal.returns
 returns c =

@@ -18,7 +18,6 @@ shape_of-out-in-End c =
 
 pub returns-in-End : goal.returns-in-End
 returns-in-End c =
-    
     let a = c.args in
     let l = c.loop-out in
     let e = next-end a.bytes.now l.at (sym c.record_at.ensures ∙ c.in-End.is) in
@@ -27,7 +26,6 @@ returns-in-End c =
 
 pub returns-in-Damaged : goal.returns-in-Damaged
 returns-in-Damaged c =
-    
     let a = c.args in
     let l = c.loop-out in
     let e = next-damaged a.bytes.now l.at (sym c.record_at.ensures ∙ c.in-Damaged.is) in
@@ -40,8 +38,6 @@ shape_of-out-in_default c =
 
 pub overflow_add-to : goal.overflow_add-to
 overflow_add-to c =
-    
-    
     let a = c.args in
     let l = c.loop-out in
     let f = next-found a.bytes.now l.at (sym c.record_at.ensures ∙ c.in-Record.is) in
@@ -52,15 +48,11 @@ overflow_add-to c =
 
 pub overflow_add-number : goal.overflow_add-number
 overflow_add-number c =
-    
     let l = c.loop-out in
     omega arith
 
 pub overflow_add-at : goal.overflow_add-at
 overflow_add-at c =
-    
-    
-    
     let a = c.args in
     let l = c.loop-out in
     let f = next-found a.bytes.now l.at (sym c.record_at.ensures ∙ c.in-Record.is) in
@@ -68,9 +60,6 @@ overflow_add-at c =
 
 pub loop-out-smaller : goal.loop-out-smaller
 loop-out-smaller c =
-    
-    
-    
     let a = c.args in
     let l = c.loop-out in
     let f = next-found a.bytes.now l.at (sym c.record_at.ensures ∙ c.in-Record.is) in
@@ -78,9 +67,6 @@ loop-out-smaller c =
 
 pub loop-out-preserved : goal.loop-out-preserved
 loop-out-preserved c =
-    
-    
-    
     let a = c.args in
     let l = c.loop-out in
     let f = next-found a.bytes.now l.at (sym c.record_at.ensures ∙ c.in-Record.is) in

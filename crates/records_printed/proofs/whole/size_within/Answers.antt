@@ -30,8 +30,6 @@ returns-in-Damaged c =
 
 pub returns-in-Refused : goal.returns-in-Refused
 returns-in-Refused c =
-    
-    
     let a = c.args in
     let l = c.loop-side in
     let f = next-found a.bytes.now l.at (sym c.record_at.ensures ∙ c.in-Record.is) in
@@ -41,15 +39,11 @@ returns-in-Refused c =
 
 pub overflow_add-number : goal.overflow_add-number
 overflow_add-number c =
-    
     let l = c.loop-side in
     omega arith
 
 pub overflow_add-at : goal.overflow_add-at
 overflow_add-at c =
-    
-    
-    
     let a = c.args in
     let l = c.loop-side in
     let f = next-found a.bytes.now l.at (sym c.record_at.ensures ∙ c.in-Record.is) in
@@ -57,9 +51,6 @@ overflow_add-at c =
 
 pub loop-side-smaller : goal.loop-side-smaller
 loop-side-smaller c =
-    
-    
-    
     let a = c.args in
     let l = c.loop-side in
     let f = next-found a.bytes.now l.at (sym c.record_at.ensures ∙ c.in-Record.is) in
@@ -67,9 +58,6 @@ loop-side-smaller c =
 
 pub loop-side-preserved : goal.loop-side-preserved
 loop-side-preserved c =
-    
-    
-    
     let a = c.args in
     let l = c.loop-side in
     let f = next-found a.bytes.now l.at (sym c.record_at.ensures ∙ c.in-Record.is) in

@@ -15,8 +15,6 @@ returns-in-Refused c =
 
 pub returns-else-fields-lt10 : goal.returns-else-fields-lt10
 returns-else-fields-lt10 c =
-    
-    
     let d = c.args.session.now in
     let after = rw c.record_in.ensures at c.after-after.ensures in
     let room = le-ltb _ _ c.if-fields-lt10.false in

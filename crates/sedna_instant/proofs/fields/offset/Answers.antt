@@ -24,7 +24,6 @@ returns-then-s-at-ne58 c =
 pub returns : goal.returns
 unfolding offset_at
 returns c =
-    
     let a = c.args in
     simp (eq-eqb (a.at + 5) (length a.s.now) (omega arith), eq-eqb _ _ c.if-s-at-ne58.false, ← c.two_digits.ensures, ← c.two_digits-2.ensures)
     c.minutes_of.ensures

@@ -13,14 +13,10 @@ returns-then-n-at c =
 
 pub returns-then-not-marks : goal.returns-then-not-marks
 returns-then-not-marks c =
-    
     unmarked c.args.s.now _ c.year_of-y.ensures (omega arith) (sym c.marks.ensures ∙ c.if-not-marks.true)
 
 pub returns-then-not-formed : goal.returns-then-not-formed
 returns-then-not-formed c =
-    
-    
-    
     unformed c.args.s.now _ c.year_of-y.ensures (omega arith) (sym c.marks.ensures ∙ c.if-not-marks.false) _ _
     c.clock_at-c.ensures c.fraction_at-f.ensures.answers (sym c.formed.ensures ∙ c.if-not-formed.true)
 
@@ -34,10 +30,6 @@ zoned-requires c =
 
 pub returns : goal.returns
 returns c =
-    
-    
-    
-    
     c.zoned.ensures
     ∙ read c.args.s.now _ c.year_of-y.ensures (omega arith) (sym c.marks.ensures ∙ c.if-not-marks.false) _ _
     c.clock_at-c.ensures c.fraction_at-f.ensures.answers _ (sym c.formed.ensures ∙ c.if-not-formed.false)

@@ -12,12 +12,10 @@ below f fit = filled_up f.number f.count fit.nine fit.fits
 
 pub overflow_mul-result : goal.overflow_mul-result
 overflow_mul-result c =
-    
     rw (power_is (9 - c.args.f.count) _ (omega arith) c.power.ensures) (record { fits = lt_of_lt_of_le (below c.args.f c.requires) (omega arith) })
 
 pub overflow_cast-result : goal.overflow_cast-result
 overflow_cast-result c =
-    
     rw (power_is (9 - c.args.f.count) _ (omega arith) c.power.ensures) (record { fits = lt_of_lt_of_le (below c.args.f c.requires) (omega arith) })
 
 pub returns : goal.returns

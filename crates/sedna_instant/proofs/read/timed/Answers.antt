@@ -18,7 +18,6 @@ returns-then-y-gt9999 c =
 
 pub returns-then-f-gt9 : goal.returns-then-f-gt9
 returns-then-f-gt9 c =
-    
     simp (c.if-y.false, le-ltb _ _ c.if-y-lt1.false, le-ltb _ _ c.if-y-gt9999.false, lt-ltb _ _ c.if-f-gt9.true)
 
 pub seconds-seconds-requires : goal.seconds-seconds-requires
@@ -31,8 +30,6 @@ nanos-nanos-requires c =
 
 pub returns : goal.returns
 returns c =
-    
-    
     simp (
       c.if-y.false,
       le-ltb _ _ c.if-y-lt1.false,

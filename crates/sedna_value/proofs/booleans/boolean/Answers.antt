@@ -34,6 +34,6 @@ pub returns-else-n-eq5 : goal.returns-else-n-eq5
 unfolding boolean_of
 returns-else-n-eq5 c =
     elim c.if-n-eq4.branch [
-      then-n-eq4+else-is_true w ↦ simp (ne_eqb _ _ c.if-n-eq1.false, eq-eqb _ _ w.if-n-eq4.true, ← w.is_true.ensures, w.if-is_true.false)
+      | then-n-eq4+else-is_true w ↦ simp (ne_eqb _ _ c.if-n-eq1.false, eq-eqb _ _ w.if-n-eq4.true, ← w.is_true.ensures, w.if-is_true.false)
       | else-n-eq4 w ↦ simp (ne_eqb _ _ c.if-n-eq1.false, ne_eqb _ _ w.if-n-eq4.false, ne_eqb _ _ c.if-n-eq5.false)
     ]

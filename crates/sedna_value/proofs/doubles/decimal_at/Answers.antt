@@ -7,26 +7,22 @@ use Rattle.sedna_value.proofs.doubles.decimal_at.Goals.{then-point-s+else-s-poin
 
 pub overflow_sub-result : goal.overflow_sub-result
 overflow_sub-result c =
-    
     let a = c.args in
     run-from a.s.now a.at c.digits-run.result c.digits-run.ensures
 
 pub overflow_sub-result-then-s-point-eq46 : goal.overflow_sub-result-then-s-point-eq46
 overflow_sub-result-then-s-point-eq46 c =
-    
     let f = c.digits-rest in
     run-from c.args.s.now (c.digits-run.result.end + 1) f.result f.ensures
 
 pub returns-then-s-point-eq46 : goal.returns-then-s-point-eq46
 returns-then-s-point-eq46 c =
-    
     let a = c.args in
     let f = c.digits-rest in
     pointed-is a.s.now a.at c.digits-run.result c.digits-run.ensures f.result c.if-s-point-eq46.true f.ensures
 
 pub overflow_sub-result-2 : goal.overflow_sub-result-2
 overflow_sub-result-2 c =
-    
     let a = c.args in
     run-from a.s.now a.at c.digits-run.result c.digits-run.ensures
 
@@ -35,6 +31,6 @@ returns c =
     let a = c.args in
     plain-is a.s.now a.at c.digits-run.result c.digits-run.ensures
     (elim c.if-point-s.branch [
-      then-point-s+else-s-point-eq46 u ↦ ne_eqb _ _ u.if-s-point-eq46.false
+      | then-point-s+else-s-point-eq46 u ↦ ne_eqb _ _ u.if-s-point-eq46.false
       | else-point-s u ↦ no-point a.s.now c.digits-run.result.end u.if-point-s.false
     ])

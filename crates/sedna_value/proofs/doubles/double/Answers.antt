@@ -9,8 +9,6 @@ use Rattle.sedna_value.proofs.doubles.double.Goals.{then-d-eq0+else-d-eq0-2, els
 
 pub returns-then-d-eq0-2 : goal.returns-then-d-eq0-2
 returns-then-d-eq0-2 c =
-    
-    
     let s = c.args.s.now in
     c.special.ensures
     ∙ no-digits s c.behind_sign-at.result c.decimal_at-d.result c.behind_sign-at.ensures c.decimal_at-d.ensures
@@ -18,7 +16,6 @@ returns-then-d-eq0-2 c =
 
 pub decided-requires : goal.decided-requires
 decided-requires c =
-    
     rw c.decimal_at-d.ensures (decimal-fits c.args.s.now c.behind_sign-at.result)
 
 pub returns-then-end-s : goal.returns-then-end-s

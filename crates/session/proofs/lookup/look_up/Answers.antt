@@ -94,4 +94,3 @@ pub returns-in_default : goal.returns-in_default
 unfolding look_from rows look_up
 returns-in_default c =
     c.of_server.ensures ∙ sym (let a = c.args in others a.i (take 17 rows) (drop 17 rows) 0 a.columns a.at a.version c.in_default.in_default-own.rest)
-

@@ -155,4 +155,3 @@ pub returns-in_default : goal.returns-in_default
 unfolding look_from rows
 returns-in_default c =
     sym (let a = c.args in others a.i (drop 17 rows) [] 17 a.columns a.at a.version c.in_default.in_default-own.rest)
-

@@ -34,8 +34,7 @@ returns-then-low-gt15 c =
     refuses (low_bad c.loop-i.invariant.2 (omega arith) (omega arith) (omega arith))
 
 pub loop-i-preserved : goal.loop-i-preserved
-loop-i-preserved c =
-    (
+loop-i-preserved c = (
   search rules,
   search rules,
   paired_next c.loop-i.invariant.2 (omega arith) _
