@@ -1,5 +1,5 @@
 //! Names the archives to the linker, for the program alone: `SEDNA_C`, `PARTS_C`, `VALUE_C` and
-//! `BASEX_C`, or where `rt staticlib` puts them.
+//! `BASEX_C`, or where `bindings/archive` puts them.
 
 use std::env;
 use std::path::PathBuf;

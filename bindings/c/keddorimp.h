@@ -1,6 +1,6 @@
 /* Keddorimp for C and C++: the Sedna client/server protocol, 1.0 to 4.0, and the BaseX protocol.
  *
- * The functions stand in four archives for x86-64, which `rt staticlib NAME` writes to
+ * The functions stand in four archives for x86-64, which `bindings/archive NAME` writes to
  * target/staticlib/libNAME.a:
  *
  *     sedna_c   reading and writing messages; the session
@@ -10,11 +10,12 @@
  *
  * `bindings/c/build NAME SOURCE..` builds a program over them.
  *
- * What is proved is the contract that each function has in the crate of that name. That this header
- * declares the functions as they are is not proved: it is written by hand, and tests/c/run calls
- * each of them through it. "Document 01" is the paper whose numbers and words these are; typed
- * values, with refusals 15 and 16, are request 1 of "document 02", and a file that ends with
- * BulkLoadError after some of its portions is request 2.
+ * What is proved is the contract that each function has in the crate of that name, and again in the
+ * one that makes the archive (sedna_archive for sedna_c). That this header declares the functions as
+ * they are is not proved: it is written by hand, and tests/c/run calls each of them through it.
+ * "Document 01" is the paper whose numbers and words these are; typed values, with refusals 15 and
+ * 16, are request 1 of "document 02", and a file that ends with BulkLoadError after some of its
+ * portions is request 2.
  *
  * Lent memory. A slice passes as a pointer to its first element and the number of its elements, one
  * argument behind the other. The proofs rest on what a caller in C has to see to: so many elements

@@ -1,4 +1,4 @@
-//! Names the four archives to the linker: they stand where `rt staticlib` puts them.
+//! Names the four archives to the linker: they stand where `bindings/archive` puts them.
 
 use std::env;
 use std::path::{Path, PathBuf};
@@ -34,6 +34,6 @@ fn explain(folder: &Path, missing: &[&str]) {
     }
     eprintln!("They are made in the repository's root, on a machine with the Rattle kit:");
     for name in missing {
-        eprintln!("    rt staticlib {name}");
+        eprintln!("    bindings/archive {name}");
     }
 }

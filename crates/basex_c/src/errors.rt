@@ -64,8 +64,7 @@ fn tell_error(place: &mut [u64], answer: ErrorIn) -> u64
 
 // The error of a response that kdr_basex_read_response read, by the kind and the six numbers told: 1
 // where the request failed, and told are where its error starts in the output and how long it is.
-#[unsafe(no_mangle)]
-pub extern "C" fn kdr_basex_error(kind: u8, response: &[u64], place: &mut [u64]) -> u64
+pub fn kdr_basex_error(kind: u8, response: &[u64], place: &mut [u64]) -> u64
     ensures { Tells (error_read kind response.now (length place.old)) place.old result place.new }
 {
     tell_error(place, error_in(kind, response))

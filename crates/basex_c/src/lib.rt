@@ -7,3 +7,12 @@ mod errors;
 mod requests;
 mod responses;
 mod strings;
+
+pub use errors::kdr_basex_error;
+pub use requests::{kdr_basex_read_request, kdr_basex_write_request};
+pub use responses::{
+    kdr_basex_item, kdr_basex_read_response, kdr_basex_write_end, kdr_basex_write_item,
+};
+pub use strings::{
+    kdr_basex_decode, kdr_basex_string_at, kdr_basex_string_len, kdr_basex_write_string,
+};

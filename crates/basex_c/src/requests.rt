@@ -41,8 +41,7 @@ fn tell(told: &mut [u64], answer: Requested) -> u64
 
 // The request at the front of the bytes, its texts one behind the other in the output; told are its
 // kind and how long each of four texts is.
-#[unsafe(no_mangle)]
-pub extern "C" fn kdr_basex_read_request(bytes: &[u8], out: &mut [u8], told: &mut [u64]) -> u64
+pub fn kdr_basex_read_request(bytes: &[u8], out: &mut [u8], told: &mut [u64]) -> u64
     ensures { Reads (request_read bytes.now (length out.old) (length told.old))
         out.old 0 (bytes_read text_bytes (reading bytes.now)) told.old
         result out.new told.new }
@@ -52,8 +51,7 @@ pub extern "C" fn kdr_basex_read_request(bytes: &[u8], out: &mut [u8], told: &mu
 }
 
 // A request of a kind, with four texts of which those that it does not take are empty.
-#[unsafe(no_mangle)]
-pub extern "C" fn kdr_basex_write_request(
+pub fn kdr_basex_write_request(
     out: &mut [u8],
     kind: u8,
     first: &[u8],

@@ -46,13 +46,7 @@ fn tell(told: &mut [u64], answer: Replied) -> u64
 // The response to a request that starts with the byte `kind`, its texts one behind the other in the
 // output; told are how long the first two are, how many items there are and how long all their
 // texts are, the status, and how long the error is.
-#[unsafe(no_mangle)]
-pub extern "C" fn kdr_basex_read_response(
-    kind: u8,
-    bytes: &[u8],
-    out: &mut [u8],
-    told: &mut [u64],
-) -> u64
+pub fn kdr_basex_read_response(kind: u8, bytes: &[u8], out: &mut [u8], told: &mut [u64]) -> u64
     ensures { Reads (response_read kind bytes.now (length out.old) (length told.old))
         out.old 0 (bytes_read text_bytes (reading kind bytes.now)) told.old
         result out.new told.new }
@@ -109,16 +103,14 @@ fn item_in(kind: u8, bytes: &[u8], at: usize) -> ItemAt
 
 // The item at `at` in the bytes of a response to a request that starts with the byte `kind`; told
 // are its id, and how long its URI and its text are.
-#[unsafe(no_mangle)]
-pub extern "C" fn kdr_basex_item(kind: u8, bytes: &[u8], at: usize, told: &mut [u64]) -> u64
+pub fn kdr_basex_item(kind: u8, bytes: &[u8], at: usize, told: &mut [u64]) -> u64
     ensures { Tells (item_read kind bytes.now at (length told.old)) told.old result told.new }
 {
     tell_item(told, at, item_in(kind, bytes, at))
 }
 
 // An item of a response, from `at` on.
-#[unsafe(no_mangle)]
-pub extern "C" fn kdr_basex_write_item(
+pub fn kdr_basex_write_item(
     out: &mut [u8],
     at: usize,
     kind: u8,
@@ -133,8 +125,7 @@ pub extern "C" fn kdr_basex_write_item(
 }
 
 // All of a response but its items, behind them from `at` on.
-#[unsafe(no_mangle)]
-pub extern "C" fn kdr_basex_write_end(
+pub fn kdr_basex_write_end(
     out: &mut [u8],
     at: usize,
     kind: u8,

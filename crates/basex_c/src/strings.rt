@@ -13,16 +13,14 @@ use basex_string::StringAt;
 use wire::Refusal;
 
 // How many bytes the text takes as a string.
-#[unsafe(no_mangle)]
-pub extern "C" fn kdr_basex_string_len(text: &[u8]) -> u64
+pub fn kdr_basex_string_len(text: &[u8]) -> u64
     ensures { result ≡ length (string text.now) }
 {
     basex_string::string_len(text) as u64
 }
 
 // The text as a string, from `at` on.
-#[unsafe(no_mangle)]
-pub extern "C" fn kdr_basex_write_string(out: &mut [u8], at: usize, text: &[u8]) -> u64
+pub fn kdr_basex_write_string(out: &mut [u8], at: usize, text: &[u8]) -> u64
     ensures { WritesByCode (in_room (length out.old) at (length (string text.now)))
         out.old at (string text.now) result out.new }
 {
@@ -61,22 +59,14 @@ fn tell(told: &mut [u64], at: usize, place: StringAt) -> u64
 }
 
 // The string that starts at `at`, judged; told is how many bytes it has, decoded.
-#[unsafe(no_mangle)]
-pub extern "C" fn kdr_basex_string_at(bytes: &[u8], at: usize, told: &mut [u64]) -> u64
+pub fn kdr_basex_string_at(bytes: &[u8], at: usize, told: &mut [u64]) -> u64
     ensures { Tells (judging bytes.now at (length told.old)) told.old result told.new }
 {
     tell(told, at, basex_string::string_at(bytes, at))
 }
 
 // The same, and its bytes put into the output from `to` on.
-#[unsafe(no_mangle)]
-pub extern "C" fn kdr_basex_decode(
-    bytes: &[u8],
-    at: usize,
-    out: &mut [u8],
-    to: usize,
-    told: &mut [u64],
-) -> u64
+pub fn kdr_basex_decode(bytes: &[u8], at: usize, out: &mut [u8], to: usize, told: &mut [u64]) -> u64
     ensures { Reads (decoding bytes.now at (length out.old) to (length told.old))
         out.old to (bytes_read (λ s. s) (reading (drop at bytes.now))) told.old
         result out.new told.new }

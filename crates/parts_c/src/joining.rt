@@ -124,8 +124,7 @@ fn opened(what: Open) -> Assembly
 
 // Puts a fresh opening into the first seven numbers: 1 for a statement, 2 for an item up to 3.0, 3
 // for one of 4.0. What they held is dropped.
-#[unsafe(no_mangle)]
-pub extern "C" fn kdr_open(assembly: &mut [u64], what: u64) -> u64
+pub fn kdr_open(assembly: &mut [u64], what: u64) -> u64
     ensures { Gives (open_code what assembly.old) (open_after what assembly.old) result assembly.new }
 {
     if assembly.len() < 7 {
@@ -218,8 +217,7 @@ fn join_read(
 // Reads the message at the front of bytes, which side sent (1 is the client, 2 the server), and
 // joins it. What is told, in four numbers, is 0 for a part, or 1, 2 or 3 for a finished statement,
 // item or item of 4.0, with its length, its format or class, and its type.
-#[unsafe(no_mangle)]
-pub extern "C" fn kdr_join(
+pub fn kdr_join(
     assembly: &mut [u64],
     buffer: &mut [u8],
     side: u8,

@@ -12,64 +12,52 @@ use answer_c::counted_code;
 
 mod joining;
 
-#[unsafe(no_mangle)]
-pub extern "C" fn kdr_statement_parts(n: usize) -> u64
+pub use joining::{kdr_join, kdr_open};
+
+pub fn kdr_statement_parts(n: usize) -> u64
     ensures { result ≡ statement_parts n }
 {
     parts_cut::statement_parts(n) as u64
 }
 
-#[unsafe(no_mangle)]
-pub extern "C" fn kdr_item_parts(n: usize) -> u64
+pub fn kdr_item_parts(n: usize) -> u64
     ensures { result ≡ item_count n }
 {
     parts_cut::item_parts(n) as u64
 }
 
-#[unsafe(no_mangle)]
-pub extern "C" fn kdr_typed_item_parts(n: usize) -> u64
+pub fn kdr_typed_item_parts(n: usize) -> u64
     ensures { result ≡ typed_item_count n }
 {
     parts_cut::typed_item_parts(n) as u64
 }
 
 // 11 for a URL that leaves no room.
-#[unsafe(no_mangle)]
-pub extern "C" fn kdr_typed_item_url_parts(n: usize, url: usize) -> u64
+pub fn kdr_typed_item_url_parts(n: usize, url: usize) -> u64
     ensures { result ≡ counted_code (url_parts n url) }
 {
     counted_code(parts_cut::typed_item_url_parts(n, url))
 }
 
-#[unsafe(no_mangle)]
-pub extern "C" fn kdr_write_statement_part(out: &mut [u8], format: u8, text: &[u8], k: usize) -> u64
+pub fn kdr_write_statement_part(out: &mut [u8], format: u8, text: &[u8], k: usize) -> u64
     ensures { WritesPartByCode (statement_part format text.now k) out.old result out.new }
 {
     counted_code(parts_cut::write_statement_part(out, format, text, k))
 }
 
-#[unsafe(no_mangle)]
-pub extern "C" fn kdr_write_item_part(out: &mut [u8], text: &[u8], k: usize) -> u64
+pub fn kdr_write_item_part(out: &mut [u8], text: &[u8], k: usize) -> u64
     ensures { WritesPartByCode (item_part text.now k) out.old result out.new }
 {
     counted_code(parts_cut::write_item_part(out, text, k))
 }
 
-#[unsafe(no_mangle)]
-pub extern "C" fn kdr_write_typed_item_part(
-    out: &mut [u8],
-    class: u8,
-    kind: u8,
-    text: &[u8],
-    k: usize,
-) -> u64
+pub fn kdr_write_typed_item_part(out: &mut [u8], class: u8, kind: u8, text: &[u8], k: usize) -> u64
     ensures { WritesPartByCode (typed_item_part class kind text.now k) out.old result out.new }
 {
     counted_code(parts_cut::write_typed_item_part(out, class, kind, text, k))
 }
 
-#[unsafe(no_mangle)]
-pub extern "C" fn kdr_write_typed_item_url_part(
+pub fn kdr_write_typed_item_url_part(
     out: &mut [u8],
     class: u8,
     kind: u8,

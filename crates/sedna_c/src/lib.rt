@@ -15,6 +15,8 @@ use wire::{Place, Refusal};
 mod sessions;
 pub mod sides;
 
+pub use sessions::{kdr_closed, kdr_fresh, kdr_read, kdr_step, kdr_turn};
+
 // Ten numbers to the front of the lent fields.
 fn store(
     fields: &mut [u64],
@@ -83,14 +85,7 @@ fn store_places(out: &mut [u64], i: u32, places: Places)
 
 // The option number k among the pairs from start on: 1, and its id and its value's place; 0 where
 // there is none.
-#[unsafe(no_mangle)]
-pub extern "C" fn kdr_option(
-    bytes: &[u8],
-    start: usize,
-    len: usize,
-    k: usize,
-    fields: &mut [u64],
-) -> u64
+pub fn kdr_option(bytes: &[u8], start: usize, len: usize, k: usize, fields: &mut [u64]) -> u64
     ensures { TellsOption (option_at k start (take len (drop start bytes.now))) fields.old result fields.new }
 {
     match sedna_read::option_at(bytes, Place { start, len }, k) {
@@ -107,15 +102,13 @@ pub extern "C" fn kdr_option(
     }
 }
 
-#[unsafe(no_mangle)]
-pub extern "C" fn kdr_write_empty(out: &mut [u8], instruction: u32) -> u64
+pub fn kdr_write_empty(out: &mut [u8], instruction: u32) -> u64
     ensures { WritesMessageByCode out.old (message instruction Body.empty) result out.new }
 {
     counted_code(sedna_write::write_empty(out, instruction))
 }
 
-#[unsafe(no_mangle)]
-pub extern "C" fn kdr_write_session(
+pub fn kdr_write_session(
     out: &mut [u8],
     instruction: u32,
     major: u8,
@@ -129,47 +122,31 @@ pub extern "C" fn kdr_write_session(
     counted_code(sedna_write::write_session(out, instruction, major, minor, user, database))
 }
 
-#[unsafe(no_mangle)]
-pub extern "C" fn kdr_write_text(out: &mut [u8], instruction: u32, text: &[u8]) -> u64
+pub fn kdr_write_text(out: &mut [u8], instruction: u32, text: &[u8]) -> u64
     ensures { WritesMessageByCode out.old (message instruction (Body.text text.now)) result out.new }
 {
     counted_code(sedna_write::write_text(out, instruction, text))
 }
 
-#[unsafe(no_mangle)]
-pub extern "C" fn kdr_write_statement(
-    out: &mut [u8],
-    instruction: u32,
-    format: u8,
-    text: &[u8],
-) -> u64
+pub fn kdr_write_statement(out: &mut [u8], instruction: u32, format: u8, text: &[u8]) -> u64
     ensures { WritesMessageByCode out.old (message instruction (Body.statement format text.now)) result out.new }
 {
     counted_code(sedna_write::write_statement(out, instruction, format, text))
 }
 
-#[unsafe(no_mangle)]
-pub extern "C" fn kdr_write_coded(out: &mut [u8], instruction: u32, code: u32, text: &[u8]) -> u64
+pub fn kdr_write_coded(out: &mut [u8], instruction: u32, code: u32, text: &[u8]) -> u64
     ensures { WritesMessageByCode out.old (message instruction (Body.coded code text.now)) result out.new }
 {
     counted_code(sedna_write::write_coded(out, instruction, code, text))
 }
 
-#[unsafe(no_mangle)]
-pub extern "C" fn kdr_write_item(
-    out: &mut [u8],
-    instruction: u32,
-    class: u8,
-    kind: u8,
-    part: &[u8],
-) -> u64
+pub fn kdr_write_item(out: &mut [u8], instruction: u32, class: u8, kind: u8, part: &[u8]) -> u64
     ensures { WritesMessageByCode out.old (message instruction (Body.item class kind Url.absent part.now)) result out.new }
 {
     counted_code(sedna_write::write_item(out, instruction, class, kind, part))
 }
 
-#[unsafe(no_mangle)]
-pub extern "C" fn kdr_write_item_url(
+pub fn kdr_write_item_url(
     out: &mut [u8],
     instruction: u32,
     class: u8,
@@ -183,8 +160,7 @@ pub extern "C" fn kdr_write_item_url(
     counted_code(sedna_write::write_item_url(out, instruction, class, kind, url, part))
 }
 
-#[unsafe(no_mangle)]
-pub extern "C" fn kdr_write_options(
+pub fn kdr_write_options(
     out: &mut [u8],
     instruction: u32,
     ids: &[u32],

@@ -37,8 +37,7 @@ fn put(session: &mut [u8], after: Session)
 }
 
 // Puts a fresh session into the first two bytes.
-#[unsafe(no_mangle)]
-pub extern "C" fn kdr_fresh(session: &mut [u8]) -> u64
+pub fn kdr_fresh(session: &mut [u8]) -> u64
     ensures { Gives (fresh_code session.old) (fresh_after session.old) result session.new }
 {
     if session.len() < 2 {
@@ -108,8 +107,7 @@ fn take(side: u8, bytes: &[u8], stepping: bool, session: &mut [u8], fields: &mut
 
 // Reads the message at the front of bytes: side 1 is the client, 2 the server. The fields are
 // instruction, shape, two numbers, two places, a count and whether there is a URL; see fields_of.
-#[unsafe(no_mangle)]
-pub extern "C" fn kdr_read(side: u8, bytes: &[u8], fields: &mut [u64]) -> u64
+pub fn kdr_read(side: u8, bytes: &[u8], fields: &mut [u64]) -> u64
     ensures { TellsReading (side_reading side bytes.now) fields.old result fields.new }
 {
     let mut no_session = [0u8; 2];
@@ -118,8 +116,7 @@ pub extern "C" fn kdr_read(side: u8, bytes: &[u8], fields: &mut [u64]) -> u64
 
 // The step on the record in the first two bytes, with the message at the front of bytes, which side
 // sent: 1 is the client, 2 the server. The fields are those of kdr_read.
-#[unsafe(no_mangle)]
-pub extern "C" fn kdr_step(session: &mut [u8], side: u8, bytes: &[u8], fields: &mut [u64]) -> u64
+pub fn kdr_step(session: &mut [u8], side: u8, bytes: &[u8], fields: &mut [u64]) -> u64
     ensures { Steps session.old side bytes.now fields.old result session.new fields.new }
 {
     if session.len() < 2 {
@@ -129,8 +126,7 @@ pub extern "C" fn kdr_step(session: &mut [u8], side: u8, bytes: &[u8], fields: &
 }
 
 // Whether the conversation is over: 1 or 0.
-#[unsafe(no_mangle)]
-pub extern "C" fn kdr_closed(session: &[u8]) -> u8
+pub fn kdr_closed(session: &[u8]) -> u8
     ensures { result ≡ closed_code session.now }
 {
     if session.len() < 2 {
@@ -157,8 +153,7 @@ fn turn_number(turn: Turn) -> u8
 }
 
 // Whose turn it is: 1 the client's, 2 the server's, 0 where the conversation is over.
-#[unsafe(no_mangle)]
-pub extern "C" fn kdr_turn(session: &[u8]) -> u8
+pub fn kdr_turn(session: &[u8]) -> u8
     ensures { result ≡ turn_code session.now }
 {
     if session.len() < 2 {

@@ -74,14 +74,7 @@ fn tell(numbers: &mut [i64], doubles: &mut [f64], value: Value) -> u64
 
 // The value of an item's text, by its class and type. The answer is what it is: 1 a whole number,
 // 2 an instant, 3 a yes or no, 4 a double.
-#[unsafe(no_mangle)]
-pub extern "C" fn kdr_value(
-    class: u8,
-    kind: u8,
-    text: &[u8],
-    numbers: &mut [i64],
-    doubles: &mut [f64],
-) -> u64
+pub fn kdr_value(class: u8, kind: u8, text: &[u8], numbers: &mut [i64], doubles: &mut [f64]) -> u64
     ensures { ComesTo (outcome class kind text.now numbers.old doubles.old) result
         numbers.new doubles.new }
 {
@@ -103,13 +96,7 @@ fn order_number(o: Order) -> i32
 
 // How the first instant lies to the second, as C's comparison functions say it: -1 earlier, 0 the
 // same, 1 later.
-#[unsafe(no_mangle)]
-pub extern "C" fn kdr_compare(
-    a_seconds: i64,
-    a_nanoseconds: u32,
-    b_seconds: i64,
-    b_nanoseconds: u32,
-) -> i32
+pub fn kdr_compare(a_seconds: i64, a_nanoseconds: u32, b_seconds: i64, b_nanoseconds: u32) -> i32
     ensures { result ≡ compared a_seconds a_nanoseconds b_seconds b_nanoseconds }
 {
     let a = Instant {
