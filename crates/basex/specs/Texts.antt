@@ -1,5 +1,5 @@
 -- Strings one behind the other: as they are written, and as they are read off the front.
-use mathlib.Core.{Bool.Bool, List.List, List.[], List.◌∷◌, List.◌++◌, List.flat_map, List.flatten}
+use mathlib.Core.{Bool.Bool, List.List, List.[], List.◌∷◌, List.flat_map, List.flatten}
 use Rattle.std.specs.Prelude.{ℕ, zero, suc, ◌+◌, ◌-◌}
 use lib.{Dec.eqb, ListN.length, ListN.drop, ListN.get_or}
 use Rattle.wire.specs.{Bytes.if, Bytes.splice, Fields.Got, Fields.Field, Fields.◌>>=◌, Fields.give}

@@ -1,5 +1,5 @@
 -- Document 01, "An item is a type id (7-15 or 32-83, else 8), in FULL a URI string after 12, 14 and 82, and a string": reading them off the front.
-use mathlib.Core.{Bool.Bool, List.List, List.[], List.◌∷◌, List.◌++◌, List.flat_map}
+use mathlib.Core.{Bool.Bool, List.List, List.[], List.◌∷◌, List.flat_map}
 use Rattle.std.specs.Prelude.{ℕ, zero, suc, ◌+◌, ◌-◌}
 use lib.{Dec.eqb, ListN.length}
 use Rattle.wire.specs.{Bytes.if, Fields.Got, Fields.Field, Fields.go_on, Fields.give}

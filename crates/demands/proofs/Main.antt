@@ -9,7 +9,6 @@ use Rattle.demands.proofs.JoinCalls.{join_calls}
 use Rattle.demands.proofs.PartsCalls.{parts-calls}
 use Rattle.demands.proofs.Request1.{request_1}
 use Rattle.demands.proofs.Request2.{request_2}
-use Rattle.demands.proofs.Request3.{request_3}
 use Rattle.demands.proofs.SednaCalls.{sedna-calls}
 use Rattle.demands.proofs.Transcript.{demand_3_transcript}
 
@@ -19,7 +18,6 @@ guarantees = record {
   basex = demand_2.basex;
   session = demand_3;
   disk_error = request_2;
-  one_table = request_3;
   joining = demand_1.parts;
   cutting = demand_2.parts;
   values = request_1;

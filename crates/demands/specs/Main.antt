@@ -3,7 +3,7 @@
 use Rattle.demands.specs.Demand1 as demand_1
 use Rattle.demands.specs.Demand2 as demand_2
 use Rattle.demands.specs.{BaseXCalls.BaseXCalls, Demand3.Demand3, Exports.Demand3Exports, JoinCalls.JoinCalls, PartsCalls.PartsCalls}
-use Rattle.demands.specs.{Request1.Request1, Request2.Request2, Request3.Request3, SednaCalls.SednaCalls, Transcript.Demand3Transcript}
+use Rattle.demands.specs.{Request1.Request1, Request2.Request2, SednaCalls.SednaCalls, Transcript.Demand3Transcript}
 
 pub record Guarantees : Type 1 where
   -- 1, 2. Reading accepts exactly what is published and stands in front (`reading_exact`). What was written reads as the same message (`read_written`), and
@@ -17,8 +17,6 @@ pub record Guarantees : Type 1 where
   -- .. and a disk error half way through a file: BulkLoadError is taken after any number of portions (`taken`), behind it only BulkLoadFailed or
   -- ErrorResponse (`behind_error`)
   pub disk_error : Request2
-  -- .. and the rules as one table: each entry is the machine's move (`rule`), and the machine that goes by it answers as before (`answers`)
-  pub one_table : Request3
   -- 5. Whatever messages are joined: 8, 9, 12 or the text, by the cuttings alone (`offered`) ..
   pub joining : demand_1.Parts
   -- .. and the library's own cut, written, read back and joined, is the text (`returned`)

@@ -14,9 +14,9 @@ use Rattle.sedna_read.specs.Reading.{Answer, reading, reading_by, or_out_of_orde
 use Rattle.sedna_read.proofs.Heads.{always}
 use Rattle.session.specs.declared.Session.{Session}
 use Rattle.session.specs.declared.Stepped.{Stepped}
-use Rattle.session.specs.Machine.{next, refused}
+use Rattle.session.specs.Machine.{move_of, next, refused}
 use Rattle.session.specs.After.{after_answer}
-use Rattle.session.proofs.Steps.{put-together, found-reading}
+use Rattle.session.proofs.Steps.{put-together, found_move, found-reading}
 use Rattle.sedna_c.specs.declared.sides.Sender.{Sender}
 use Rattle.sedna_c.specs.declared.sides.Sender.TheVariants as sender
 use Rattle.sedna_c.specs.Codes.{sender_of, read_from, side_reading}
@@ -46,11 +46,11 @@ step-answer s side bytes phase e = by (sender_of side)
 -- the same of what the code has: what it found of the instruction in front, and the phase after it
 pub taken-answer : (stepping : Bool) (s : Session) (side : Side) (bytes : List ℕ) (i : ℕ) (found : Found) (phase : ℕ) (answer : Reading)
     → i ≡ int_at bytes 0 → found ≡ find_of i
-    → phase ≡ if stepping (next s.phase s.version i) 0
+    → phase ≡ if stepping (move_of found s.phase s.version i) 0
     → answer ≡ located (or_out_of_order (not (eqb phase refused)) (reading_by found side bytes))
     → (phase ≡ phase_after stepping s bytes) × (answer ≡ answer_of (sender.Is side) (phase_after stepping s bytes) bytes)
 taken-answer stepping s side bytes i found phase answer ei ef ep ea =
-    let after : phase ≡ phase_after stepping s bytes = ep ∙ ap (λ (n : ℕ). if stepping (next s.phase s.version n) 0) ei in (
+    let after : phase ≡ phase_after stepping s bytes = ep ∙ ap (λ (n : ℕ). if stepping n 0) (found_move s side bytes i found ei ef) in (
       after,
       ea
           ∙ ap (λ (n : ℕ). located (or_out_of_order (not (eqb n refused)) (reading_by found side bytes))) after

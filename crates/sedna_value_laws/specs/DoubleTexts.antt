@@ -1,7 +1,7 @@
 -- Document 02, request 1: "A double is an optional sign, one to fifteen digits, optionally with a point among or beside them", and what XML Schema has
 -- besides, an exponent, INF, -INF and NaN. No reader is known here.
 use mathlib.Core.{Bool.Bool, Bool.true, Bool.false, List.List, List.[], List.◌++◌, Path.◌≡◌}
-use Rattle.std.specs.Prelude.{ℕ, ◌+◌, ◌^◌, ◌≤◌, ◌<◌}
+use Rattle.std.specs.Prelude.{ℕ, ◌^◌, ◌≤◌, ◌<◌}
 use lib.{Ieee.Float, Ieee.binary64, Ieee.round, Ieee.neg, ListN.length}
 use Rattle.sedna_digits.specs.Numbers.{number, AreDigits, text}
 use Rattle.sedna_value.specs.{declared.Value.Value, declared.Value.TheVariants.Double}

@@ -24,7 +24,7 @@ use Rattle.session.specs.Machine.{Row, along, refused, client_rows, server_rows,
 use Rattle.session.specs.Phases as N
 use Rattle.session_laws.proofs.Begun.{Reached, said_kept, goes_exact, reach-next, begun-front, kept, reached}
 use Rattle.session_laws.proofs.Published.{published-sent, published_exact}
-use Rattle.session_laws.proofs.Ways.{of_each, kinds_at, next-kind, each, leads, row_leads, led_by, row_led_by, only_at, row_only_at}
+use Rattle.session_laws.proofs.Ways.{of_each, kinds_at, next-kind, each, leads, row_leads, row_led_by, row_only_at}
 
 -- the record behind these messages is at that phase
 record At (p : ℕ) (l : List Message) : Type 0 where

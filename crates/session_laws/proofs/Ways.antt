@@ -3,10 +3,9 @@ use mathlib.Core.Bool.{Bool, true, false}
 use mathlib.Core.List.{List, [], ◌∷◌, ◌++◌}
 use mathlib.Core.Logic.{◌⊎◌, inl, inr}
 use mathlib.Core.Path.{◌≡◌, refl, sym, ◌∙◌, ap, subst}
-use Prim.Native.Nat.{ℕ, zero, suc, ◌≤◌, ◌<◌}
-use native.Mathlib.Omega.{arith}
+use Prim.Native.Nat.{ℕ, zero, suc, ◌≤◌}
 use lib.Dec.{eqb, leb}
-use lib.ListN.{get_or, drop, replicate, get_or-replicate, get_or-append}
+use lib.ListN.{get_or}
 use borrow.Author.Tests.{eqb-true, eq-eqb, leb-true}
 use Rattle.wire.specs.Bytes.{if}
 use Rattle.wire.specs.Every.{Every, OneOf}
@@ -16,8 +15,8 @@ use Rattle.sedna.specs.declared.Found.{Found}
 use Rattle.sedna.specs.declared.Found.TheVariants.{Known, Unknown}
 use Rattle.sedna.specs.Table.{find_of}
 use Rattle.grammar.proofs.Sendable.{true_T}
-use Rattle.session.specs.Machine.{Row, along, refused, broken, client_rows, server_rows, client_row, server_row, move_of, client_move, server_move, next}
-use Rattle.session.specs.Phases.{file, closed}
+use Rattle.session.specs.Machine.{Row, along, refused, client_rows, server_rows, client_row, server_row, move_of, client_move, server_move, next}
+use Rattle.session.specs.Phases.{closed}
 
 pub not_refused : {A : Type 0} → eqb refused refused ≡ false → A
 not_refused e = absurd (true_T {t = false} (sym e))

@@ -1,9 +1,8 @@
 use mathlib.Core.Path.{◌≡◌, refl, ap, sym, ◌∙◌}
-use Prim.Native.Nat.{◌-◌}
 use native.Mathlib.Omega.{arith}
 use lib.ListN.{length}
 use borrow.Author.Rules.{rules}
-use Rattle.basex.specs.Kinds.{kinds, find_of}
+use Rattle.basex.specs.Kinds.{find_of}
 use Rattle.basex.proofs.Scan.{hit, miss, past, kinds_15}
 use Rattle.basex.proofs.find.Goals as goal
 

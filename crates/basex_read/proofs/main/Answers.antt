@@ -1,4 +1,3 @@
-use Prim.Native.Nat.{◌-◌}
 use Rattle.basex_read.proofs.main.Goals as goal
 
 pub returns-else-record : goal.returns-else-record

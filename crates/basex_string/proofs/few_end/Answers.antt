@@ -1,7 +1,5 @@
 use mathlib.Core.Path.{sym, ◌∙◌}
-use Prim.Native.Nat.{◌-◌}
 use native.Mathlib.Omega.{arith}
-use Rattle.basex_string.specs.inner.Runs.{run}
 use Rattle.basex_string.proofs.Runs.{run_none, run-special, run-plain}
 use Rattle.basex_string.proofs.few_end.Goals as goal
 

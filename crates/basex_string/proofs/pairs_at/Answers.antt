@@ -1,7 +1,5 @@
 use mathlib.Core.Path.{sym, ◌∙◌}
-use Prim.Native.Nat.{◌-◌}
 use native.Mathlib.Omega.{arith}
-use Rattle.basex_string.specs.inner.Runs.{pairs}
 use Rattle.basex_string.proofs.Pairs.{pairs-more}
 use Rattle.basex_string.proofs.pairs_at.Goals as goal
 

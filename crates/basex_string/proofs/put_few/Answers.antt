@@ -1,10 +1,8 @@
-use mathlib.Core.Logic.{⊎_elim}
 use mathlib.Core.Bool.{Bool}
 use mathlib.Core.Path.{◌≡◌, refl, sym, ap}
 use Prim.Native.Nat.{◌+◌, ◌-◌}
 use native.Mathlib.Omega.{arith}
-use lib.ListN.{length, drop, length-set}
-use borrow.Author.Tests.{not-true, not-false}
+use lib.ListN.{drop, length-set}
 use Rattle.wire.specs.Bytes.{if}
 use Rattle.basex_string.specs.Scan.{scan}
 use Rattle.basex_string.specs.inner.Storing.{text_read}

@@ -1,5 +1,5 @@
 use mathlib.Core.Path.{refl, subst, sym, ap}
-use Prim.Native.Nat.{◌+◌, ◌*◌, ◌-◌}
+use Prim.Native.Nat.{◌+◌, ◌*◌}
 use native.Mathlib.Omega.{arith}
 use lib.ListN.{length, drop, length-set}
 use Rattle.wire.proofs.Splices.{Ahead}
@@ -7,7 +7,7 @@ use Rattle.basex_string.specs.Scan.{reading}
 use Rattle.basex_string.specs.inner.Storing.{text_read}
 use Rattle.basex_string.proofs.Steps.{ahead-from, ahead-one}
 use Rattle.basex_string.proofs.Scans.{text_here, text-two}
-use Rattle.basex_string.proofs.Pairs.{behind, behind-none, behind-next, behind-first}
+use Rattle.basex_string.proofs.Pairs.{behind-none, behind-next, behind-first}
 use Rattle.basex_string.proofs.put_pairs.Goals as goal
 
 pub loop-n-init : goal.loop-n-init

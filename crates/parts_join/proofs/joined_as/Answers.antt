@@ -1,4 +1,3 @@
-use mathlib.Core.Logic.{⊎_elim}
 use Rattle.parts_join.specs.Joining.{joined_as}
 use Rattle.parts_join.proofs.joined_as.Goals as goal
 use Rattle.parts_join.proofs.joined_as.Goals.{then-takes+else-a+else-in_order, else-takes}

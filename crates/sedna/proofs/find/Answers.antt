@@ -1,9 +1,8 @@
 use mathlib.Core.Path.{◌≡◌, ap, sym, ◌∙◌}
-use Prim.Native.Nat.{◌-◌}
 use native.Mathlib.Omega.{arith}
 use lib.ListN.{length}
 use borrow.Author.Rules.{rules}
-use Rattle.sedna.specs.Table.{rows, find_of, search as scan}
+use Rattle.sedna.specs.Table.{find_of, search as scan}
 use Rattle.sedna.proofs.Scan.{hit, miss, past, rows_46}
 use Rattle.sedna.proofs.find.Goals as goal
 

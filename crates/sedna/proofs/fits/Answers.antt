@@ -1,11 +1,10 @@
 use mathlib.Core.Path.{◌≡◌, ap, sym, ◌∙◌}
-use Prim.Native.Nat.{◌-◌}
 use native.Mathlib.Omega.{arith}
 use lib.ListN.{length}
 use borrow.Author.Rules.{rules}
 use borrow.Author.Tests.{eq-eqb, ne_eqb}
 use Rattle.sedna.specs.declared.Found.{Found}
-use Rattle.sedna.specs.Table.{rows, find_of, fit_of, search as scan}
+use Rattle.sedna.specs.Table.{find_of, fit_of, search as scan}
 use Rattle.sedna.proofs.Scan.{hit, miss, past, rows_46}
 use Rattle.sedna.proofs.fits.Goals as goal
 

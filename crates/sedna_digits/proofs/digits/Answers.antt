@@ -1,4 +1,3 @@
-use Prim.Native.Nat.{◌-◌}
 use native.Mathlib.Omega.{arith}
 use Rattle.sedna_digits.proofs.Walks.{walk_start, walk_on, walk_low, walk_high, walk_end}
 use Rattle.sedna_digits.proofs.digits.Goals as goal

@@ -1,7 +1,3 @@
-use mathlib.Core.Path.{◌≡◌}
-use Prim.Native.Nat.{min}
-use native.Mathlib.Omega.{arith}
-use Rattle.wire.proofs.Below.{passed}
 use Rattle.sedna_digits.proofs.power.Goals as goal
 
 pub returns-in-0 : goal.returns-in-0

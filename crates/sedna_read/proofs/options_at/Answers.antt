@@ -1,8 +1,6 @@
 use mathlib.Core.Path.{subst, sym, ◌∙◌}
-use Prim.Native.Nat.{◌-◌}
 use native.Mathlib.Omega.{arith}
 use borrow.Author.Rules.{rules}
-use Rattle.sedna.specs.declared.Shape.TheVariants as shape
 use Rattle.sedna_read.specs.inner.Bodies.{PairWithin}
 use Rattle.sedna_read.proofs.Forms.{pair-next}
 use Rattle.sedna_read.proofs.Pairs.{pairs_start, pairs-refused, pairs_next, pairs_end, place-refused}

@@ -1,10 +1,7 @@
 use mathlib.Core.Path.{sym, ap, ◌∙◌}
-use Prim.Native.Nat.{◌-◌}
 use native.Mathlib.Omega.{arith}
 use lib.Dec.{eqb}
-use lib.ListN.{length}
 use borrow.Author.Rules.{rules}
-use Rattle.sedna_write.specs.Pairs.{given, sum}
 use Rattle.sedna_write.proofs.Given.{given_uneven, given-start, given-short, given-next, sum-end}
 use Rattle.sedna_write.proofs.pairs_given.Goals as goal
 

@@ -1,11 +1,10 @@
 use mathlib.Core.Path.{refl, sym, ◌∙◌}
-use Prim.Native.Nat.{◌-◌}
 use native.Mathlib.Omega.{arith}
-use lib.ListN.{length, drop, get_or}
+use lib.ListN.{drop, get_or}
 use Rattle.wire.proofs.Ends.{part_length}
 use Rattle.wire.proofs.Splices.{start, put_at-fits}
 use Rattle.sedna.specs.Encode.{pairs_bytes}
-use Rattle.sedna_write.specs.Pairs.{pairs_of, sum}
+use Rattle.sedna_write.specs.Pairs.{pairs_of}
 use Rattle.sedna_write.proofs.Given.{sum-next, ahead-next, ahead-end, next_fits}
 use borrow.Author.Rules.{rules}
 use Rattle.sedna_write.proofs.put_pairs.Goals as goal

@@ -1,6 +1,4 @@
 use mathlib.Core.Path.{sym}
-use Prim.Native.Nat.{◌-◌}
-use lib.ListN.{length}
 use lib.Seq.{length-take-le}
 use Rattle.transcript.proofs.Buffer.{of_record}
 use Rattle.transcript.proofs.main.Goals as goal

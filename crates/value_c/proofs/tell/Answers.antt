@@ -4,7 +4,6 @@ use native.Mathlib.Omega.{arith}
 use lib.IntN.{pos}
 use mir.Facts.{to_z-of_z, to_z_pos}
 use mir.Syntax.{w64}
-use borrow.Author.Rules.{sfits_of}
 use borrow.Author.Tests.{lt-ltb, le-ltb}
 use Rattle.value_c.specs.Values.{flag_of, zero, in_numbers, lent_outcome}
 use Rattle.value_c.proofs.Numbers.{zero_bits, flag_kept, numbers_eq}

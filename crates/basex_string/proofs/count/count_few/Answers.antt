@@ -1,9 +1,6 @@
-use mathlib.Core.Logic.{⊎_elim}
 use mathlib.Core.Path.{sym, ◌∙◌}
-use Prim.Native.Nat.{◌-◌}
 use native.Mathlib.Omega.{arith}
 use borrow.Author.Rules.{rules}
-use Rattle.basex_string.specs.inner.Runs.{specials}
 use Rattle.basex_string.proofs.Steps.{specials-end, specials-special, specials-plain}
 use Rattle.basex_string.proofs.count.count_few.Goals as goal
 use Rattle.basex_string.proofs.count.count_few.Goals.{else-is_special, then-is_special}

@@ -1,8 +1,6 @@
-use Prim.Native.Nat.{◌+◌, ◌-◌}
+use Prim.Native.Nat.{◌+◌}
 use native.Mathlib.Omega.{arith}
-use lib.ListN.{length}
 use Rattle.wire.proofs.Ends.{part_length}
-use Rattle.basex_string.specs.inner.Runs.{specials}
 use Rattle.basex_string.proofs.Steps.{specials-end, specials-next, specials-within}
 use Rattle.basex_string.proofs.count.count_specials.Goals as goal
 

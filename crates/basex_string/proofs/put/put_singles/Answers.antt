@@ -1,8 +1,7 @@
 use mathlib.Core.Path.{refl, sym, ◌∙◌}
-use Prim.Native.Nat.{◌+◌, ◌-◌}
+use Prim.Native.Nat.{◌+◌}
 use native.Mathlib.Omega.{arith}
-use lib.ListN.{length, length-set}
-use Rattle.basex_string.specs.inner.Runs.{run}
+use lib.ListN.{length-set}
 use Rattle.basex_string.proofs.Runs.{run-start, run-special, run-plain}
 use Rattle.basex_string.proofs.Copies.{copied_none, copied_byte}
 use Rattle.basex_string.proofs.put.put_singles.Goals as goal

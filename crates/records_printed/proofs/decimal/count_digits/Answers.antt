@@ -1,7 +1,6 @@
 use mathlib.Core.Path.{ap}
 use native.Mathlib.Omega.{arith}
 use lib.ListN.{length}
-use Rattle.records_printed.specs.Line.{decimal}
 use Rattle.records_printed.proofs.Decimals.{decimal-one, length_more, length_some, length_most}
 use Rattle.records_printed.proofs.decimal.count_digits.Goals as goal
 

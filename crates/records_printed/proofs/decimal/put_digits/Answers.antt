@@ -1,6 +1,6 @@
 use mathlib.Core.Path.{refl}
 use native.Mathlib.Omega.{arith}
-use lib.ListN.{length, length-set}
+use lib.ListN.{length-set}
 use borrow.Author.Rules.{rules}
 use Rattle.records_printed.specs.Line.{decimal}
 use Rattle.records_printed.proofs.Decimals.{none_written, one_written, all-written}

@@ -1,7 +1,5 @@
 use mathlib.Core.Bool.{true, false}
-use mathlib.Core.Logic.{⊎_elim}
 use mathlib.Core.Path.{sym, ◌∙◌}
-use Prim.Native.Nat.{◌-◌}
 use native.Mathlib.Omega.{arith}
 use Rattle.records.proofs.Fronts.{next-end, next-damaged, next-found}
 use Rattle.records_printed.proofs.Prints.{prints-end, prints-damaged}

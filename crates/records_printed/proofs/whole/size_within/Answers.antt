@@ -1,8 +1,6 @@
 use mathlib.Core.Bool.{true, false}
 use mathlib.Core.Path.{sym, ◌∙◌}
-use Prim.Native.Nat.{◌-◌}
 use native.Mathlib.Omega.{arith}
-use lib.ListN.{length}
 use Rattle.records.proofs.Fronts.{next-end, next-damaged, next-found}
 use Rattle.records_printed.proofs.Prints.{prints-end, prints-damaged}
 use Rattle.records_printed.proofs.Replays.{sized_start, sized_next, sized_not, sized_last, line-answered, line_measured}

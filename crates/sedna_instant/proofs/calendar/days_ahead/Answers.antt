@@ -1,7 +1,6 @@
 use mathlib.Core.Path.{◌≡◌}
 use native.Mathlib.Omega.{arith}
 use Rattle.sedna_instant.specs.Calendar.{months_to}
-use Rattle.wire.proofs.Below.{passed}
 use Rattle.sedna_instant.proofs.calendar.days_ahead.Goals as goal
 
 pub returns-in-1 : goal.returns-in-1

@@ -1,6 +1,6 @@
 use mathlib.Core.Path.{sym, ◌∙◌}
 use mathlib.Core.Logic.{⊎_elim}
-use Rattle.sedna_instant.proofs.Days.{no-month, long-month}
+use Rattle.sedna_instant.proofs.Days.{no-month}
 use Rattle.sedna_instant.proofs.calendar.month_length.Goals as goal
 
 pub returns-then-leap_year : goal.returns-then-leap_year

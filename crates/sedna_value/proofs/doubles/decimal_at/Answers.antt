@@ -1,4 +1,3 @@
-use mathlib.Core.Logic.{⊎_elim}
 use Prim.Native.Nat.{◌+◌}
 use borrow.Author.Tests.{ne_eqb}
 use Rattle.sedna_value.proofs.Decimals.{run-from, plain-is, pointed-is, no-point}

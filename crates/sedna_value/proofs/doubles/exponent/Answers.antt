@@ -1,4 +1,3 @@
-use mathlib.Core.Logic.{⊎_elim}
 use borrow.Author.Rules.{rules}
 use borrow.Author.Tests.{ne_eqb}
 use Rattle.sedna_value.specs.Doubles.{exponent_at}

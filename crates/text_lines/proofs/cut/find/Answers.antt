@@ -1,4 +1,3 @@
-use Prim.Native.Nat.{◌-◌}
 use native.Mathlib.Omega.{arith}
 use Rattle.text_lines.proofs.Parts.{before_here, before_past, before-end}
 use Rattle.text_lines.proofs.cut.find.Goals as goal

@@ -1,5 +1,4 @@
 use mathlib.Core.Path.{sym, ◌∙◌}
-use Prim.Native.Nat.{◌-◌}
 use native.Mathlib.Omega.{arith}
 use Rattle.text_lines.proofs.Words.{ahead_here, ahead-on, ahead-end}
 use Rattle.text_lines.proofs.cut.position.Goals as goal

@@ -1,7 +1,5 @@
 use mathlib.Core.Path.{sym, ◌∙◌}
-use Prim.Native.Nat.{◌-◌}
 use native.Mathlib.Omega.{arith}
-use lib.ListN.{length}
 use borrow.Author.Rules.{rules}
 use Rattle.text_lines.proofs.Sames.{same-lengths, same-on, same_not, same_end}
 use Rattle.text_lines.proofs.cut.same.Goals as goal

@@ -2,7 +2,6 @@ use borrow.Author.Rules.{rules}
 use native.Mathlib.Omega.{arith}
 use Rattle.text_lines.proofs.Fronts.{refuses, found, lost}
 use Rattle.text_lines.proofs.Texts.{text-short, worded_start, worded_none, worded_next, worded_end}
-use Prim.Native.Nat.{◌-◌}
 use Rattle.text_lines.proofs.parse.bytes.Goals as goal
 
 pub returns-then-out-from : goal.returns-then-out-from

@@ -2,7 +2,6 @@ use borrow.Author.Rules.{rules}
 use native.Mathlib.Omega.{arith}
 use Rattle.text_lines.proofs.Fronts.{refuses}
 use Rattle.text_lines.proofs.Pairs.{pairs_odd, pairs-short, pairs-long, paired_start, high_bad, low_bad, paired_next, paired_end}
-use Prim.Native.Nat.{◌-◌}
 use Rattle.text_lines.proofs.parse.pairs.Goals as goal
 
 pub returns-then-digits-ne0 : goal.returns-then-digits-ne0

@@ -1,8 +1,7 @@
 use borrow.Author.Rules.{rules}
 use native.Mathlib.Omega.{arith}
 use Rattle.text_lines.proofs.Fronts.{refuses}
-use Rattle.text_lines.proofs.Again.{again, last-short, last_of_none, last_never, last-long, last_end, again-start, again-next}
-use Prim.Native.Nat.{◌-◌}
+use Rattle.text_lines.proofs.Again.{last-short, last_of_none, last_never, last-long, last_end, again-start, again-next}
 use mathlib.Core.Path.{◌≡◌}
 use Rattle.text_lines.proofs.parse.repeat.Goals as goal
 
