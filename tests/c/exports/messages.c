@@ -103,7 +103,7 @@ static void check_table(void)
     for (uint32_t number = 0; number <= 600; number++) {
         known += kdr_refusal(kdr_write_empty(lent.out, 0, number)) != KDR_UNKNOWN_INSTRUCTION;
     }
-    CHECK(known == INSTRUCTIONS);
+    CHECK(INSTRUCTIONS == 46 && known == 46);
 }
 
 /* The message, with other bytes behind it, has these ten numbers; 1 where its last byte is missing,
