@@ -68,7 +68,7 @@ module _ (room : ℕ) (m : Message) where
 
   not_so : (own : Shape) → ¬ ((own ≡ shape_of m.body) × (allowed m.body ≡ true)) → (f : Found) (sender : Side) → f ≡ Known sender own
       → judgement_by (fit_of f (shape_of m.body)) (allowed m.body) k room ≡ Refused ValueNotAllowed
-  not_so own unfit f sender found = by (same_shape own (shape_of m.body)) refl (allowed m.body) refl
+  not_so own unfit f whose found = by (same_shape own (shape_of m.body)) refl (allowed m.body) refl
     where
       by : (t : Bool) → same_shape own (shape_of m.body) ≡ t → (v : Bool) → allowed m.body ≡ v → judgement_by (fit_of f (shape_of m.body)) (allowed m.body) k room ≡ Refused ValueNotAllowed
       by false other v q = rw (found, other)
