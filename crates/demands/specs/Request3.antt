@@ -1,6 +1,7 @@
--- Document 02, request 3, "The rules as one table": what is promised. The table is the constant `NEXT` of crates/session/src/table.rt; the contract of
--- `session::machine::sheet`, which returns it, says that it is `sheet`. That `session::machine::next` finds its moves there no contract can say: its code
--- is one line. "What the grammar's machine did before" is `next`, of which the step is stated (`stepped`, by `outcome`), and every demand with it.
+-- Document 02, request 3, "The rules as one table", which has not landed: what is promised of the table, which stands beside the machine. It is the constant
+-- `NEXT` of crates/session/src/table.rt; the contract of `session::lookup::sheet`, which returns it, says that it is `sheet`. That `session::lookup::next`
+-- finds its moves there no contract can say: its code is one line. The step does not go by it yet. "What the grammar's machine did before" is `next`, of
+-- which the step is stated (`stepped`, by `outcome`), and every demand with it.
 use mathlib.Core.{List.[], List.◌∷◌, Logic.◌⊎◌, Logic.◌↔◌, Path.◌≡◌}
 use Rattle.std.specs.Prelude.{ℕ, ◌*◌, ◌≤◌, ◌<◌, length}
 use Rattle.wire.specs.Every.{Every}
