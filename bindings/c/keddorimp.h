@@ -54,8 +54,8 @@ typedef char kdr_a_length_has_64_bits[sizeof(size_t) == 8 ? 1 : -1];
 /* The version of this header and of the archives that it was written for. */
 #define KDR_VERSION_MAJOR 0
 #define KDR_VERSION_MINOR 3
-#define KDR_VERSION_PATCH 1
-#define KDR_VERSION "0.3.1"
+#define KDR_VERSION_PATCH 0
+#define KDR_VERSION "0.3.0"
 
 /* ---- Refusals ---- */
 

@@ -31,7 +31,7 @@ use Rattle.parts_join.proofs.Refusals.{refusal-leaves}
 use Rattle.sedna_c.specs.Codes.{side_reading}
 use Rattle.parts_c.specs.declared.joining.Meant.{Meant}
 use Rattle.parts_c.specs.declared.joining.Meant.TheVariants as meant
-use Rattle.parts_c.specs.Joining.{assembly_put, meant_by, open_after, Outcome, unchanged as leftAlone, meant_joined, outcome}
+use Rattle.parts_c.specs.Joining.{assembly_put, meant_by, open_after, Outcome, unchanged as left_alone, meant_joined, outcome}
 use Rattle.demands.specs.Answered.{Answered, Call, Told}
 use Rattle.demands.specs.Gatherings.{Gathering, Means, TellsReply}
 use Rattle.demands.specs.JoinCalls.{keep_by, keep, RightJoinCall, AfterJoins, JoinCalls}
@@ -43,7 +43,7 @@ use Rattle.demands.proofs.SednaCalls.{is-offered}
 -- seven numbers stay seven
 module _ (d buffer bytes told : List ℕ) (h : 7 ≤ length d) where
   outcome_seven : (t u : Bool) (k : Meant) (r : Reading)
-      → 7 ≤ length (if {A = Outcome} t (leftAlone NoRoom d buffer told) (if u (leftAlone NoRoom d buffer told) (meant_joined k r bytes d buffer told))).assembly
+      → 7 ≤ length (if {A = Outcome} t (left_alone NoRoom d buffer told) (if u (left_alone NoRoom d buffer told) (meant_joined k r bytes d buffer told))).assembly
   outcome_seven true u k r = h
   outcome_seven false true k r = h
   outcome_seven false false meant.Nothing r = h

@@ -42,7 +42,7 @@ use Rattle.parts_join.proofs.Refusals.{handed-inside, refusal-leaves}
 use Rattle.sedna_c.specs.Codes.{side_reading}
 use Rattle.parts_c.specs.declared.joining.Meant.{Meant}
 use Rattle.parts_c.specs.declared.joining.Meant.TheVariants as meant
-use Rattle.parts_c.specs.Joining.{open_of, assembly_put, meant_by, open_code, open_after, answer_code, told_after, unchanged as leftAlone, message_joined, reading_joined, meant_joined, outcome}
+use Rattle.parts_c.specs.Joining.{open_of, assembly_put, meant_by, open_code, open_after, answer_code, told_after, unchanged as left_alone, message_joined, reading_joined, meant_joined, outcome}
 use Rattle.parts_c.proofs.Meant.{meant-same}
 use Rattle.demands.specs.Answered.{Answered, answered, Call, unchanged}
 use Rattle.demands.specs.Gatherings.{Gathering, Means, TOLD_LENGTH, TellsReply}
@@ -141,7 +141,7 @@ opens what d = by (ltb (length d) 7) refl (eqb what 0) refl (ltb 3 what) refl
         (means-put (opened (open_of what)) d (omega arith, omega arith, omega arith)) refl)
 
 module _ (s : Keeps) (c : Call) where
-  stays : (r : Refusal) → JoinRight s c (unchanged (number_of r) s c) → JoinRight s c (turned (leftAlone r s.assembly s.buffer c.numbers))
+  stays : (r : Refusal) → JoinRight s c (unchanged (number_of r) s c) → JoinRight s c (turned (left_alone r s.assembly s.buffer c.numbers))
   stays r x = rw (refused r) x
 
   module _ (lent : Lent s c) (a : Assembly) (is-meant : meant_by s.assembly ≡ meant.Is a) (means : Means s.assembly a) where
@@ -229,7 +229,7 @@ module _ (s : Keeps) (c : Call) where
       meant_so lent (meant.Is a) e (MeansIn.is means) = with_assembly lent a e means
 
       by : (t : Bool) → ltb (length s.assembly) 7 ≡ t → (u : Bool) → ltb (length c.numbers) 4 ≡ u
-          → JoinRight s c (turned (if t (leftAlone NoRoom s.assembly s.buffer c.numbers) (if u (leftAlone NoRoom s.assembly s.buffer c.numbers)
+          → JoinRight s c (turned (if t (left_alone NoRoom s.assembly s.buffer c.numbers) (if u (left_alone NoRoom s.assembly s.buffer c.numbers)
           (meant_joined (meant_by s.assembly) (side_reading c.side c.bytes) c.bytes s.assembly s.buffer c.numbers))))
       by true p u q = stays NoRoom (JoinRight.few (inl (ltb-true (length s.assembly) 7 p)))
       by false p true q = stays NoRoom (JoinRight.few (inr (ltb-true (length c.numbers) 4 q)))

@@ -3,7 +3,7 @@
 --
 -- `Called` and the definitions behind it have the right sides of the contracts. For each call a record or a type says what right is, and
 -- `BaseXCalls`, at the end, that every call comes out right, whatever can be lent (`Lendable`).
-use Rattle.basex.specs.{Texts.strings as stringsBytes, declared.Found.TheVariants.Known, declared.Found.TheVariants.Unknown, declared.Reply.Reply}
+use Rattle.basex.specs.{Texts.strings as strings_bytes, declared.Found.TheVariants.Known, declared.Found.TheVariants.Unknown, declared.Reply.Reply}
 use Rattle.basex.specs.{Kinds.find_of, Kinds.listed, Kinds.is_full, Request.Request}
 use Rattle.basex.specs.Response.{Item, Response, item_bytes, ItemAllowed, Stands, error_of}
 use mathlib.Core.{Bool.Bool, Bool.true, Bool.false, List.List, List.[], List.◌∷◌, List.◌++◌, List.flatten, Logic.◌⊎◌, Path.◌≡◌}
@@ -404,7 +404,7 @@ pub record BaseXCalls : Type 0 where
   pub item_decoded : (s : List ℕ) → Lendable s → (at : ℕ) (i : Item) (rest : List ℕ) → drop at s ≡ item_bytes i ++ rest
       → (front : List (List ℕ)) (t : List ℕ) (back : List (List ℕ)) → i.texts ≡ front ++ (t ∷ back)
       → (out : List ℕ) (to : ℕ) (told : List ℕ) → to + length t ≤ length out → 1 ≤ length told
-      → (a : Decoded s (at + suc (length (stringsBytes front))) out to told (decode_called s (at + suc (length (stringsBytes front))) out to told))
+      → (a : Decoded s (at + suc (length (strings_bytes front))) out to told (decode_called s (at + suc (length (strings_bytes front))) out to told))
       × (a.read.text ≡ t)
   -- of a response that has come whole, item by item: the first is told, and behind it stands the response without it; ..
   pub item_first : (kind : ℕ) (s : List ℕ) → Lendable s → (r : Response) (rest told : List ℕ) → Stands kind r s rest

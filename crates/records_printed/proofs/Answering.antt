@@ -1,5 +1,5 @@
 -- From the step's answer to a record's.
-use Rattle.session.specs.Step.{by_places as steppedAs}
+use Rattle.session.specs.Step.{by_places as stepped_as}
 use Rattle.sedna_read.specs.Reading.{answered as parsed}
 use mathlib.Core.Bool.{Bool, true, false}
 use mathlib.Core.List.{List}
@@ -57,7 +57,7 @@ module _ (s : Session) (side : Side) (p : List ℕ) where
       (record { session = record { phase = to; version = version_after m.instruction s.version m.body }; answer = Answer.accepted m n })
 
   refused_moved : (m : Message) (n to : ℕ) (x : Refusal) (t : Bool) → n ≡ 8 + int_at p 4 → located (moved m n to t).answer ≡ read.Refused x
-      → if (ltb n (length p)) (answer_of 7 s) (by_number (steppedAs (moved m n to t))) ≡ answer_of (refused_with p x) s
+      → if (ltb n (length p)) (answer_of 7 s) (by_number (stepped_as (moved m n to t))) ≡ answer_of (refused_with p x) s
   refused_moved m n to x true c e =
       let same : OutOfOrder ≡ x = cc in
       rw (c, ← same) (by (ltb (8 + int_at p 4) (length p)))
@@ -68,7 +68,7 @@ module _ (s : Session) (side : Side) (p : List ℕ) where
   refused_moved m n to x false c e = apart (cc)
 
   taken_moved : (m : Message) (n to : ℕ) (i : ℕ) (places : Places) (k : ℕ) (t : Bool) → located (moved m n to t).answer ≡ read.Message i places k
-      → if (ltb n (length p)) (answer_of 7 s) (by_number (steppedAs (moved m n to t))) ≡ if (ltb k (length p)) (answer_of 7 s) (answer_of 0 (moved m n to t).session)
+      → if (ltb n (length p)) (answer_of 7 s) (by_number (stepped_as (moved m n to t))) ≡ if (ltb k (length p)) (answer_of 7 s) (answer_of 0 (moved m n to t).session)
   taken_moved m n to i places k true e = apart (cc)
   taken_moved m n to i places k false e = let same : n ≡ k = cc in rw same
 

@@ -3,7 +3,7 @@ ghost use Rattle.std.specs.Prelude.{[], ◌∷◌, ◌≡◌, ◌+◌, ◌≤◌
 ghost use Rattle.wire.specs.Call.{put_at};
 ghost use Rattle.records.specs.Record.{record_of};
 ghost use Rattle.records_printed.specs.Answer.{answered};
-ghost use Rattle.records_printed.specs.Line.{letter as letterOf, instruction, space, line, line_in};
+ghost use Rattle.records_printed.specs.Line.{letter as letter_of, instruction, space, line, line_in};
 ghost use Rattle.records_printed.specs.Output.{Puts, PutsLine, record_line};
 ghost use Rattle.records_printed.specs.Transcript.{last_line};
 ghost use Rattle.records_printed.specs.inner.Line.{widths_of, width_of, Measures, Counts, Fits};
@@ -16,7 +16,7 @@ use session::Session;
 use wire::{Counted, in_room};
 
 fn letter(side: Side) -> u8
-    ensures { result ≡ letterOf side }
+    ensures { result ≡ letter_of side }
 {
     match side {
         Side::Client => b'C',
@@ -26,7 +26,7 @@ fn letter(side: Side) -> u8
 
 fn put_sender(out: &mut [u8], at: usize, side: Side)
     requires { at + 3 ≤ length out.old }
-    ensures { out.new ≡ put_at out.old at (space ∷ letterOf side ∷ space ∷ []) }
+    ensures { out.new ≡ put_at out.old at (space ∷ letter_of side ∷ space ∷ []) }
 {
     out[at] = b' ';
     out[at + 1] = letter(side);

@@ -3,7 +3,7 @@
 ghost use Rattle.std.specs.Prelude.{◌≡◌, ◌-◌, drop};
 ghost use Rattle.sedna.specs.Table.{rows};
 ghost use Rattle.session.specs.Machine.{next as next_of};
-ghost use Rattle.session.specs.Sheet.{sheet as sheetOf, counted_of, entry_in, look_from, look_up};
+ghost use Rattle.session.specs.Sheet.{sheet as sheet_of, counted_of, entry_in, look_from, look_up};
 
 use crate::phase;
 use crate::phase::REFUSED;
@@ -113,7 +113,7 @@ pub fn next(at: u8, version: u8, i: u32) -> u8
 
 // The table, tied to what its rule asks for.
 pub fn sheet() -> [Column; 46]
-    ensures { result ≡ sheetOf }
+    ensures { result ≡ sheet_of }
 {
     NEXT
 }
