@@ -98,12 +98,12 @@ size_t from_hex(uint8_t *bytes, const char *hex);
 
 /* Document 01's table, in its order: the header's name, the number, who sends it, its body. */
 enum { INSTRUCTIONS = 46 };
-struct row {
+struct instruction {
     uint32_t name, number;
     uint8_t side;
     unsigned shape;
 };
-extern const struct row TABLE[INSTRUCTIONS];
+extern const struct instruction TABLE[INSTRUCTIONS];
 
 /* Puts a message of that instruction with empty texts into the output, as if its body had that
  * shape; the version is 4.0. Answers what the writer answers. */

@@ -2,7 +2,7 @@
 #include "check.h"
 #include <stdlib.h>
 
-const struct row TABLE[INSTRUCTIONS] = {
+const struct instruction TABLE[INSTRUCTIONS] = {
     {KDR_StartUp, 110, KDR_CLIENT, KDR_SHAPE_EMPTY},
     {KDR_Begin, 210, KDR_CLIENT, KDR_SHAPE_EMPTY},
     {KDR_Commit, 220, KDR_CLIENT, KDR_SHAPE_EMPTY},
@@ -73,7 +73,7 @@ uint64_t written(uint32_t instruction, unsigned shape)
 }
 
 /* A row's message is written by the writer of its shape alone, and read from its side alone. */
-static void check_row(const struct row *r)
+static void check_row(const struct instruction *r)
 {
     uint8_t other = r->side == KDR_CLIENT ? KDR_SERVER : KDR_CLIENT;
     uint64_t n;
