@@ -36,7 +36,8 @@ item_told at (ItemAt.Refused r) = Outcome.refused r
 -- the item that stands at `at` in a response: 2 for a kind that is none, 8 for one without items, then its fields
 abbrev pub item_as : Found → List ℕ → ℕ → ItemAt
 item_as Unknown s at = ItemAt.Refused UnknownInstruction
-item_as (Known n reply) s at = if (listed reply) (item_at (is_full reply) at (length s - at) (next (is_full reply) (drop at s))) (ItemAt.Refused ValueNotAllowed)
+item_as (Known n reply) s at =
+    if (listed reply) (item_at (is_full reply) at (length s - at) (next (is_full reply) (drop at s))) (ItemAt.Refused ValueNotAllowed)
 
 -- "1 for no byte, 2, then fields": where no byte stands at `at`, 1 whatever the kind
 abbrev pub item_in : ℕ → List ℕ → ℕ → ItemAt

@@ -119,7 +119,8 @@ pub record WrittenExactly : Type 0 where
   pub item_unwritten : (room at kind id : ℕ) (uri text : List ℕ) (r : Refusal)
       → (item_written room at kind id uri text ≡ Counted.Refused r) ↔ ItemUnwritten room at kind id uri text r
   pub item_there : (out : List ℕ) (at kind id : ℕ) (uri text : List ℕ) (i : Item) → MeansItem kind id uri text i → at + length (item_bytes i) ≤ length out
-      → output_after (item_written (length out) at kind id uri text) out at (item_bytes (item_of (full_of (find_of kind)) id uri text)) ≡ splice out at (item_bytes i)
+      → output_after (item_written (length out) at kind id uri text) out at (item_bytes (item_of (full_of (find_of kind)) id uri text))
+      ≡ splice out at (item_bytes i)
   pub end-written : (room at kind : ℕ) (first second : List ℕ) (status : ℕ) (error : List ℕ) (n : ℕ)
       → (end_written room at kind first second status error ≡ Counted.Count n)
       ↔ ((reply : Reply) × (r : Response) × MeansEnd kind first second status error reply r × Fits room at (response.encode reply r) n)

@@ -156,5 +156,6 @@ pub record ResponseMoments (kind : ℕ) : Type 0 where
       ↔ Begun (Encoded (response.Published reply) (response.encode reply)) s
   pub broken : (n : ℕ) (reply : Reply) → find_of kind ≡ Known n reply → (s : List ℕ) → Otherwise (responses.reading kind s)
       ↔ Broken (Encoded (response.Published reply) (response.encode reply)) s
-  pub value : (n : ℕ) (reply : Reply) → find_of kind ≡ Known n reply → (s : List ℕ) → (responses.reading kind s ≡ Got.refused ValueNotAllowed) ↔ BadValue reply s
+  pub value : (n : ℕ) (reply : Reply) → find_of kind ≡ Known n reply → (s : List ℕ)
+      → (responses.reading kind s ≡ Got.refused ValueNotAllowed) ↔ BadValue reply s
   pub pair : (n : ℕ) (reply : Reply) → find_of kind ≡ Known n reply → (s : List ℕ) → (responses.reading kind s ≡ Got.refused BadEscape) ↔ BadText reply s

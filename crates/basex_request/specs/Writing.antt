@@ -4,7 +4,8 @@ use Rattle.std.specs.Prelude.{ℕ, length, take}
 use Rattle.wire.specs.{Bytes.if, Call.in_room}
 use Rattle.wire.specs.declared.Refusal.TheVariants.{UnknownInstruction, ValueNotAllowed, NoEncoding}
 use Rattle.wire.specs.declared.Counted.{Counted}
-use Rattle.basex.specs.{declared.Found.Found, declared.Reply.Reply, Kinds.find_of, Kinds.is_command, Request.Request, Request.encode, Request.opens, Texts.unused}
+use Rattle.basex.specs.{declared.Found.Found, declared.Reply.Reply, Kinds.find_of, Kinds.is_command}
+use Rattle.basex.specs.{Request.Request, Request.encode, Request.opens, Texts.unused}
 
 -- the first text, none where there is none
 abbrev pub first_of : List (List ℕ) → List ℕ

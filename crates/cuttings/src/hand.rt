@@ -1,5 +1,4 @@
-// A message joined, and what it hands over printed. `join_said` takes a struct apart that holds a part
-// of the buffer, and is proved by a walk; its parameters are plain, so that whoever calls it is covered.
+// A message joined, and what it hands over printed.
 ghost use Rattle.std.specs.Prelude.{◌≡◌, length};
 ghost use Rattle.sedna.specs.Message.{message};
 ghost use Rattle.sedna_read.specs.Meaning.{body_in};

@@ -170,7 +170,8 @@ pub record ResponseNumbers : Type 0 where
   pub error : ℕ
 
 abbrev pub response_numbers : List ℕ → ResponseNumbers
-response_numbers t = record { length_1 = get_or t 0 0; length_2 = get_or t 1 0; items = get_or t 2 0; listed = get_or t 3 0; status = get_or t 4 0; error = get_or t 5 0 }
+response_numbers t =
+    record { length_1 = get_or t 0 0; length_2 = get_or t 1 0; items = get_or t 2 0; listed = get_or t 3 0; status = get_or t 4 0; error = get_or t 5 0 }
 
 -- the texts of a response cut out of the output by the numbers told: the first, the second, those of the items together, and the error
 abbrev pub ResponseTexts : ResponseNumbers → List ℕ → List (List ℕ) → Type 0

@@ -75,7 +75,8 @@ pub record BaseX : Type 0 where
   pub string_refused : (b : List ℕ) (at : ℕ) (out : List ℕ) (to : ℕ) (r : Refusal)
       → decoded (length b) (length out) to (scan.reading (drop at b)) ≡ StringAt.Refused r
       → OneOf (1 ∷ 10 ∷ 13 ∷ []) (number_of r) × (output_read (λ s. s) out to (scan.reading (drop at b)) ≡ out)
-  pub string_unwritten : (room at : ℕ) (text : List ℕ) (r : Refusal) → in_room room at (length (string text)) ≡ Counted.Refused r → OneOf (10 ∷ []) (number_of r)
+  pub string_unwritten : (room at : ℕ) (text : List ℕ) (r : Refusal) → in_room room at (length (string text)) ≡ Counted.Refused r
+      → OneOf (10 ∷ []) (number_of r)
   pub request_refused : (s out : List ℕ) (r : Refusal) → requests.requested (length s) (length out) (requests.reading s) ≡ Requested.Refused r
       → OneOf (1 ∷ 2 ∷ 10 ∷ 13 ∷ []) (number_of r) × (output_read requests.text_bytes out 0 (requests.reading s) ≡ out)
   pub request_unwritten : (room kind : ℕ) (texts : List (List ℕ)) (r : Refusal) → requesting.written room kind texts ≡ Counted.Refused r

@@ -12,7 +12,8 @@ use Rattle.sedna.specs.{declared.Side.Side, declared.Side.TheVariants.Client, de
 use Rattle.sedna.specs.{Allowed.format_allowed, Allowed.allowed, Encode.body_bytes, Encode.encode}
 use Rattle.sedna.specs.{Message.Url, Message.Pair, Message.Body, Message.Message, Message.message, Names.LongQueryEnd}
 use Rattle.sedna.specs.{Published.Published, Published.Front, Published.Writable, Table.InTable}
-use Rattle.sedna_read.specs.{declared.Places.Places, declared.Reading.Reading, Meaning.meaning, Meaning.option_in, Places.place, Places.located, Places.option_at}
+use Rattle.sedna_read.specs.{declared.Places.Places, declared.Reading.Reading, Meaning.meaning, Meaning.option_in}
+use Rattle.sedna_read.specs.Places.{place, located, option_at}
 use Rattle.sedna_read.specs.Reading.{Answer, reading}
 use Rattle.sedna_write.specs.{Pairs.given, Pairs.pairs_of, Pairs.options_written, Writing.written}
 use Rattle.sedna_laws.specs.Pieces.{Bounded}
@@ -115,7 +116,8 @@ pub record Parts : Type 0 where
       → Bounded (Body.item class kind url text) → UrlFits url → Every (Published Server) (cut_typed_item class kind url text)
   pub typed_laid_out : (v : Version) → T (from 4 v) → (class kind : ℕ) (url : Url) (text : List ℕ) → allowed (Body.item class kind url text) ≡ true
       → Bounded (Body.item class kind url text) → UrlFits url → (i : grammar.Item v) × (flat_item i ≡ cut_typed_item class kind url text)
-  pub typed_counted : (class kind : ℕ) (url : Url) (text : List ℕ) → length (cut_typed_item class kind url text) ≡ item_parts_from (start_room url) (length text)
+  pub typed_counted : (class kind : ℕ) (url : Url) (text : List ℕ)
+      → length (cut_typed_item class kind url text) ≡ item_parts_from (start_room url) (length text)
   pub typed_filled : (class kind : ℕ) (url : Url) (text : List ℕ) → UrlFits url → Filled (cut_typed_item class kind url text)
   -- "(u above 10,227: 11)": then an ItemStart with the URL has no encoding, not even with no text, and there is no cut to count
   pub url_fits : (class kind : ℕ) (url : Url) → UrlFits url ↔ (length (body_bytes (Body.item class kind url [])) ≤ 10240)
@@ -127,7 +129,8 @@ pub record Parts : Type 0 where
   -- `parts_join::join` is given
   pub part_read : (side : Side) (cut : List Message) → Every (Published side) cut → (k : ℕ) (m : Message) → get_elem? cut k ≡ some m
       → (out : List ℕ) (n : ℕ) → part_written true true cut k (length out) ≡ Counted.Count n
-      → meaning (output_after (Counted.Count n) out 0 (encode m)) (located (reading side (output_after (Counted.Count n) out 0 (encode m)))) ≡ Answer.accepted m n
+      → meaning (output_after (Counted.Count n) out 0 (encode m)) (located (reading side (output_after (Counted.Count n) out 0 (encode m))))
+      ≡ Answer.accepted m n
   -- all of it at once: what is cut, written part by part into outputs with room, read by its side, and joined in order is returned where it fits the
   -- buffer; where it does not, 12. Outputs of 10,248 bytes always have room
   pub returned : (u : Uncut) → Sendable u → (outs : ℕ → List ℕ) → Roomy u outs → (d : List ℕ) → Returned u outs d

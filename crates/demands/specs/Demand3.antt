@@ -7,7 +7,8 @@
 use mathlib.Core.{Bool.Bool, Bool.true, List.List, List.[], List.◌∷◌, List.◌++◌, Logic.◌↔◌, Option.Option, Option.some, Path.◌≡◌}
 use Rattle.std.specs.Prelude.{ℕ, ◌<◌}
 use lib.{Dec.T, ListN.length}
-use Rattle.wire.specs.{Bytes.IsBytes, Calls.Done, Calls.record_after_all, Calls.kept_after_all, Calls.AllRight, Every.Every, declared.Refusal.Refusal, Refusals.number_of}
+use Rattle.wire.specs.{Bytes.IsBytes, Every.Every, declared.Refusal.Refusal, Refusals.number_of}
+use Rattle.wire.specs.Calls.{Done, record_after_all, kept_after_all, AllRight}
 use Rattle.sedna.specs.{declared.Side.Side, Message.Body, Message.Message, Message.message, Names.ErrorResponse, Published.Published}
 use Rattle.sedna_read.specs.{Meaning.meaning, Reading.Answer, Reading.reading}
 use Rattle.grammar.specs.{Conversation.Whole, Conversation.Begins, Grammar.Conversation, Layout.flat, Sent.can_send, Turn.HasTurn}

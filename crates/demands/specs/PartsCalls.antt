@@ -8,7 +8,8 @@ use Rattle.sedna.specs.{Message.Url, Message.Body, Message.Message}
 use Rattle.sedna_read.specs.Reading.{Answer}
 use Rattle.sedna_laws.specs.Pieces.{Bounded}
 use Rattle.parts_cut.specs.Cut.{cut_statement, cut_item, cut_typed_item}
-use Rattle.parts_cut.specs.Part.{statement_parts, item_count, typed_item_count, url_parts, CutPart, statement_part, item_part, typed_item_part, typed_item_url_part}
+use Rattle.parts_cut.specs.Part.{statement_parts, item_count, typed_item_count, url_parts, CutPart}
+use Rattle.parts_cut.specs.Part.{statement_part, item_part, typed_item_part, typed_item_url_part}
 use Rattle.parts_laws.specs.{PartDue.PartRight, ThroughBytes.Uncut}
 use Rattle.parts_join.specs.{declared.Assembly.Assembly, declared.Open.Open, Answers.Reply, Answers.reply, Cuttings.Ending}
 use Rattle.parts_join.specs.Joining.{opened, joined, buffer_after}

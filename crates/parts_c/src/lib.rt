@@ -4,7 +4,8 @@
 #![tactic(auto)]
 
 ghost use Rattle.std.specs.Prelude.{◌≡◌};
-ghost use Rattle.parts_cut.specs.Part.{statement_parts, item_count, typed_item_count, url_parts, statement_part, item_part, typed_item_part, typed_item_url_part};
+ghost use Rattle.parts_cut.specs.Part.{statement_parts, item_count, typed_item_count, url_parts};
+ghost use Rattle.parts_cut.specs.Part.{statement_part, item_part, typed_item_part, typed_item_url_part};
 ghost use Rattle.answer_c.specs.Codes.{counted_code};
 ghost use Rattle.parts_c.specs.Parts.{WritesPartByCode};
 

@@ -6,7 +6,8 @@ use Rattle.wire.specs.{Bytes.if, declared.Refusal.TheVariants.ValueNotAllowed, d
 use Rattle.answer_c.specs.Codes.{refusal_code}
 use Rattle.sedna.specs.declared.Side.TheVariants.{Client, Server}
 use Rattle.sedna_read.specs.declared.Reading.{Reading}
-use Rattle.session.specs.{declared.Session.Session, declared.Stepped.Stepped, declared.Turn.Turn, Step.fresh_session, Step.stepped, Step.closed_of, Step.turn_of}
+use Rattle.session.specs.{declared.Session.Session, declared.Stepped.Stepped, declared.Turn.Turn}
+use Rattle.session.specs.Step.{fresh_session, stepped, closed_of, turn_of}
 use Rattle.sedna_c.specs.{declared.sides.Sender.Sender, Codes.sender_of, Codes.read_code, Codes.fields_after}
 
 -- the record in the first two bytes: phase, version

@@ -22,7 +22,9 @@ year_of s = year_from s (eqb (get_or s 0 0) 45) (if (eqb (get_or s 0 0) 45) 1 0)
 unfoldable pub marks_at : List ℕ → ℕ → Bool
 marks_at s at =
     if (eqb (get_or s at 0) 45)
-    (if (eqb (get_or s (at + 3) 0) 45) (if (eqb (get_or s (at + 6) 0) 84) (if (eqb (get_or s (at + 9) 0) 58) (eqb (get_or s (at + 12) 0) 58) false) false) false) false
+    (if (eqb (get_or s (at + 3) 0) 45)
+    (if (eqb (get_or s (at + 6) 0) 84)
+    (if (eqb (get_or s (at + 9) 0) 58) (eqb (get_or s (at + 12) 0) 58) false) false) false) false
 
 abbrev pub clock_at : List ℕ → ℕ → Clock
 clock_at s at = record {
