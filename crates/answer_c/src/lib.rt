@@ -5,19 +5,19 @@
 ghost use Rattle.std.specs.Prelude.{◌≡◌};
 ghost use Rattle.answer_c.specs.Codes.{refusal_code, counted_code};
 
-use wire::{Counted, Refusal, number};
+use wire::Refusal;
 
 pub fn refusal_code(r: Refusal) -> u64
     ensures { result ≡ refusal_code r }
 {
-    9223372036854775808 + (number(r) as u64)
+    9223372036854775808 + u64::from(r.number())
 }
 
-pub fn counted_code(answer: Counted) -> u64
+pub fn counted_code(answer: Result<usize, Refusal>) -> u64
     ensures { result ≡ counted_code answer }
 {
     match answer {
-        Counted::Count(n) => n as u64,
-        Counted::Refused(r) => refusal_code(r),
+        Ok(n) => n as u64,
+        Err(r) => refusal_code(r),
     }
 }

@@ -1,10 +1,10 @@
 -- Document 01, "First byte of a request and its strings", and what the response to each is made of.
+use Rattle.std.specs.Prelude.{Option, Some, None, ℕ, leb, eqb}
 use mathlib.Core.{Bool.Bool, Bool.true, Bool.false, List.List, List.[], List.◌∷◌}
-use Rattle.std.specs.Prelude.{ℕ, leb, eqb}
 use Rattle.wire.specs.Bytes.{if, between}
 use Rattle.basex.specs.declared.Reply.{Reply}
 use Rattle.basex.specs.declared.Reply.TheVariants.{Command, Create, Query, Results, Full}
-use Rattle.basex.specs.{declared.Kind.Kind, declared.Found.Found, declared.Columns.Columns}
+use Rattle.basex.specs.{declared.Kind.Kind, declared.Columns.Columns}
 
 -- first byte, number of strings, response; the last is COMMAND
 unfoldable pub kinds : List Kind
@@ -27,46 +27,46 @@ abbrev pub row_byte : ℕ → ℕ
 row_byte b = if (starts_command b) 0x20 b
 
 -- the strings and the response of the first kind with the byte
-unfoldable pub search : ℕ → List Kind → Found
-search b [] = Found.Unknown
-search b (k ∷ ks) = if (eqb k.0 b) (Found.Known k.1 k.2) (search b ks)
+unfoldable pub search : ℕ → List Kind → Option (ℕ × Reply)
+search b [] = None
+search b (k ∷ ks) = if (eqb k.0 b) (Some (k.1, k.2)) (search b ks)
 
 -- what the table says of a first byte: "Other first bytes: 2"
-unfoldable pub find_of : ℕ → Found
+unfoldable pub find_of : ℕ → Option (ℕ × Reply)
 find_of b = search (row_byte b) kinds
 
 -- what a response is made of: whether its request is a COMMAND, how many strings stand ahead of the status, whether an error string stands behind
 -- status 01, whether there are items, whether they are those of FULL
 abbrev pub columns_of : Reply → Columns
 -- "COMMAND: two strings", of which with status 01 "the last string is the error"
-columns_of Command = (true, 2, false, false, false)
+columns_of Command = record { command = true; ahead = 2; error = false; listed = false; full = false }
 -- "CREATE, ADD, PUT, PUTBINARY: one string", which with status 01 is that last string
-columns_of Create = (false, 1, false, false, false)
+columns_of Create = record { command = false; ahead = 1; error = false; listed = false; full = false }
 -- "QUERY and the query commands: one string …, then 00, or 01 and an error string"
-columns_of Query = (false, 1, true, false, false)
+columns_of Query = record { command = false; ahead = 1; error = true; listed = false; full = false }
 -- "(RESULTS, FULL: items, then 00)" in place of the one string
-columns_of Results = (false, 0, true, true, false)
-columns_of Full = (false, 0, true, true, true)
+columns_of Results = record { command = false; ahead = 0; error = true; listed = true; full = false }
+columns_of Full = record { command = false; ahead = 0; error = true; listed = true; full = true }
 
 -- whose first byte is text
 abbrev pub is_command : Reply → Bool
-is_command reply = (columns_of reply).0
+is_command reply = (columns_of reply).command
 
 abbrev pub ahead : Reply → ℕ
-ahead reply = (columns_of reply).1
+ahead reply = (columns_of reply).ahead
 
 abbrev pub error_behind : Reply → Bool
-error_behind reply = (columns_of reply).2
+error_behind reply = (columns_of reply).error
 
 -- one behind 01, none behind 00
 abbrev pub behind : Reply → ℕ → ℕ
 behind reply status = if (error_behind reply) status 0
 
 abbrev pub listed : Reply → Bool
-listed reply = (columns_of reply).3
+listed reply = (columns_of reply).listed
 
 abbrev pub is_full : Reply → Bool
-is_full reply = (columns_of reply).4
+is_full reply = (columns_of reply).full
 
 -- "a type id (7-15 or 32-83, else 8)"
 unfoldable pub id_allowed : ℕ → Bool

@@ -1,8 +1,8 @@
 -- Document 01, "BaseX": a request as it is published. No reader is known here.
+use Rattle.std.specs.Prelude.{Some, ℕ, length}
 use mathlib.Core.{Bool.Bool, Bool.true, Bool.false, List.List, List.[], List.◌∷◌, Path.◌≡◌}
-use Rattle.std.specs.Prelude.{ℕ, length}
 use Rattle.basex_string.specs.Strings.{string}
-use Rattle.basex.specs.{declared.Reply.Reply, declared.Found.TheVariants.Known, Kinds.starts_command, Kinds.find_of, Kinds.is_command, Texts.strings}
+use Rattle.basex.specs.{declared.Reply.Reply, Kinds.starts_command, Kinds.find_of, Kinds.is_command, Texts.strings}
 
 pub data Request : Type 0 where
   -- "20 to FE starts a COMMAND, one string": the first byte is text
@@ -22,4 +22,4 @@ opens (b ∷ text) = starts_command b
 -- it has an encoding: a COMMAND that opens one, or a first byte with as many strings as the table gives it
 abbrev pub Published : Request → Type 0
 Published (Request.command text) = opens text ≡ true
-Published (Request.coded b ts) = (reply : Reply) × (find_of b ≡ Known (length ts) reply) × (is_command reply ≡ false)
+Published (Request.coded b ts) = (reply : Reply) × (find_of b ≡ Some ((length ts), reply)) × (is_command reply ≡ false)

@@ -1,9 +1,9 @@
 -- Document 01, "BaseX": the response to a request, as it is published. No reader is known here.
+use Rattle.std.specs.Prelude.{Some, ℕ, ◌-◌}
 use mathlib.Core.{Bool.Bool, Bool.true, Bool.false, List.List, List.[], List.◌∷◌, List.◌++◌, List.flat_map, Path.◌≡◌}
-use Rattle.std.specs.Prelude.{ℕ, ◌-◌}
 use lib.{Dec.eqb, ListN.length, ListN.drop}
 use Rattle.wire.specs.{Bytes.if, Every.Every}
-use Rattle.basex.specs.{declared.Reply.Reply, declared.Found.TheVariants.Known}
+use Rattle.basex.specs.{declared.Reply.Reply}
 use Rattle.basex.specs.Kinds.{find_of, ahead, behind, listed, is_full, id_allowed, item_strings, status_allowed}
 use Rattle.basex.specs.Texts.{strings}
 
@@ -70,6 +70,6 @@ error_of reply r = if (eqb r.status 1) (error_as reply r) []
 pub record Stands (kind : ℕ) (r : Response) (s rest : List ℕ) : Type 0 where
   pub strings : ℕ
   pub reply : Reply
-  pub known : find_of kind ≡ Known strings reply
+  pub known : find_of kind ≡ Some (strings, reply)
   pub published : Published reply r
   pub encoded : s ≡ encode reply r ++ rest

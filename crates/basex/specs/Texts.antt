@@ -1,10 +1,19 @@
 -- Strings one behind the other: as they are written, and as they are read off the front.
-use mathlib.Core.{Bool.Bool, List.List, List.[], List.◌∷◌, List.flat_map, List.flatten}
-use Rattle.std.specs.Prelude.{ℕ, zero, suc, ◌+◌, ◌-◌}
+use Rattle.std.specs.Prelude.{Result, Ok, Err, ℕ, zero, suc, ◌+◌, ◌-◌}
+use Rattle.wire.specs.declared.Refusal.{Refusal}
+use mathlib.Core.{Bool.Bool, Bool.true, List.List, List.[], List.◌∷◌, List.flat_map, List.flatten}
 use lib.{Dec.eqb, ListN.length, ListN.drop, ListN.get_or}
 use Rattle.wire.specs.{Bytes.if, Bytes.splice, Fields.Got, Fields.Field, Fields.◌>>=◌, Fields.give}
 use Rattle.basex_string.specs.{Strings.string, Scan.reading, Unescaping.Unescaped, Unescaping.unescaped, declared.Ends.Ends}
 use Rattle.basex.specs.declared.TwoAt.{TwoAt}
+
+-- strings that are there: how many bytes each has, and where the next field starts
+abbrev pub two_there : ℕ → ℕ → ℕ → Result TwoAt Refusal
+two_there first second next = Ok (record { first = first; second = second; next = next })
+
+-- a text that is not present is empty
+abbrev pub place_if : Bool → List ℕ → Bool
+place_if present text = if present true (eqb (length text) 0)
 
 -- the string of a text that is present, else nothing
 abbrev pub string_if : Bool → List ℕ → List ℕ
@@ -30,9 +39,9 @@ abbrev pub unused : ℕ → List (List ℕ) → Bool
 unused n ts = eqb (length (flatten (drop n ts))) 0
 
 -- of n bytes from `at` on, up to two strings were read: how long each is, and where what stands behind starts
-abbrev pub two_at : ℕ → ℕ → Got (List (List ℕ)) → TwoAt
-two_at at n (Got.refused r) = TwoAt.Refused r
-two_at at n (Got.got ts rest) = TwoAt.At (length_at ts 0) (length_at ts 1) (at + (n - length rest))
+abbrev pub two_at : ℕ → ℕ → Got (List (List ℕ)) → Result TwoAt Refusal
+two_at at n (Got.refused r) = Err r
+two_at at n (Got.got ts rest) = two_there (length_at ts 0) (length_at ts 1) (at + (n - length rest))
 
 -- texts put into an output: what it holds, where it is free again, and what is left to read
 pub record TextsStored : Type 0 where

@@ -2,17 +2,17 @@
 // strings that stand one behind the other.
 #![tactic(auto)]
 
-ghost use Rattle.std.specs.Prelude.{◌≡◌, ◌-◌, min, length, drop};
-ghost use Rattle.wire.specs.Call.{Gives};
-ghost use Rattle.basex.specs.Kinds.{kinds, find_of, row_byte, starts_command, columns_of, is_command, ahead, error_behind, behind};
+ghost use Rattle.std.specs.Prelude.{◌≡◌, ◌+◌, ◌-◌, ◌≤◌, min, length, drop};
+ghost use Rattle.wire.specs.Call.{put_at, Gives};
+ghost use Rattle.basex.specs.Kinds.{find_of, row_byte, starts_command, columns_of, is_command, ahead, error_behind, behind};
 ghost use Rattle.basex.specs.Kinds.{listed, is_full, id_allowed, item_strings};
-ghost use Rattle.basex.specs.Texts.{string_if, texts, two_at, texts_stored, ends};
+ghost use Rattle.basex.specs.Texts.{place_if, string_if, texts, two_at, texts_stored, ends};
 
-use basex_string::{Ends, StringAt};
+use basex_string::Ends;
 use wire::Refusal;
 
 // What the response to a request is made of, named by the first request that has it.
-#[derive(Clone, Copy)]
+#[derive(Clone, Copy, PartialEq, Eq)]
 pub enum Reply {
     Command,
     Create,
@@ -21,7 +21,7 @@ pub enum Reply {
     Full,
 }
 
-// First byte, number of strings, response. All of them small: the table is laid out at each use.
+// First byte, number of strings, response.
 #[derive(Clone, Copy)]
 pub struct Kind(pub u8, pub u8, pub Reply);
 
@@ -44,24 +44,11 @@ pub const KINDS: [Kind; 15] = [
     Kind(0x20, 1, Reply::Command),
 ];
 
-fn table() -> [Kind; 15]
-    ensures { result ≡ kinds }
-{
-    KINDS
-}
-
-// What the table says of a request's first byte.
-#[derive(Clone, Copy)]
-pub enum Found {
-    Known(usize, Reply),
-    Unknown,
-}
-
 // Whether a COMMAND starts with the byte.
 pub fn starts_command(b: u8) -> bool
     ensures { result ≡ starts_command b }
 {
-    if 0x20 <= b { b <= 0xFE } else { false }
+    0x20 <= b && b <= 0xFE
 }
 
 // Every byte from 20 to FE stands for COMMAND.
@@ -72,57 +59,64 @@ fn row_byte(first: u8) -> u8
 }
 
 // The number of strings and the response of the request that starts with the byte.
-pub fn find(first: u8) -> Found
+pub fn find(first: u8) -> Option<(usize, Reply)>
     ensures { result ≡ find_of first }
 {
     let b = row_byte(first);
-    let t = table();
-    let mut i: usize = 0;
-    while i < 15 {
-        let k = t[i];
+    for k in &KINDS {
         if k.0 == b {
-            let strings = k.1 as usize;
-            let reply = k.2;
-            return Found::Known(strings, reply);
+            return Some((k.1 as usize, k.2));
         }
-        i += 1;
     }
-    Found::Unknown
+    None
 }
 
 // Whether the request is a COMMAND, how many strings stand ahead of the status, whether an error string
 // stands behind status 01, whether there are items, whether they have URI strings.
-#[derive(Clone, Copy)]
-pub struct Columns(pub bool, pub usize, pub bool, pub bool, pub bool);
+#[derive(Clone, Copy, PartialEq, Eq)]
+pub struct Columns {
+    pub command: bool,
+    pub ahead: usize,
+    pub error: bool,
+    pub listed: bool,
+    pub full: bool,
+}
 
 fn columns_of(reply: Reply) -> Columns
     ensures { result ≡ columns_of reply }
 {
-    match reply {
-        Reply::Command => Columns(true, 2, false, false, false),
-        Reply::Create => Columns(false, 1, false, false, false),
-        Reply::Query => Columns(false, 1, true, false, false),
-        Reply::Results => Columns(false, 0, true, true, false),
-        Reply::Full => Columns(false, 0, true, true, true),
+    let (command, ahead, error, listed, full) = match reply {
+        Reply::Command => (true, 2, false, false, false),
+        Reply::Create => (false, 1, false, false, false),
+        Reply::Query => (false, 1, true, false, false),
+        Reply::Results => (false, 0, true, true, false),
+        Reply::Full => (false, 0, true, true, true),
+    };
+    Columns {
+        command,
+        ahead,
+        error,
+        listed,
+        full,
     }
 }
 
 pub fn is_command(reply: Reply) -> bool
     ensures { result ≡ is_command reply }
 {
-    columns_of(reply).0
+    columns_of(reply).command
 }
 
 pub fn strings_ahead(reply: Reply) -> usize
     ensures { result ≡ ahead reply }
 {
-    columns_of(reply).1
+    columns_of(reply).ahead
 }
 
 pub fn error_behind(reply: Reply) -> bool
     ensures { result ≡ error_behind reply }
 {
-    columns_of(reply).2
+    columns_of(reply).error
 }
 
 pub fn strings_behind(reply: Reply, status: u8) -> usize
@@ -138,41 +132,29 @@ pub fn strings_behind(reply: Reply, status: u8) -> usize
 pub fn is_listed(reply: Reply) -> bool
     ensures { result ≡ listed reply }
 {
-    columns_of(reply).3
+    columns_of(reply).listed
 }
 
 pub fn is_full(reply: Reply) -> bool
     ensures { result ≡ is_full reply }
 {
-    columns_of(reply).4
+    columns_of(reply).full
 }
 
+#[tactic(auto, unfolding(crate::specs::Kinds::id_allowed))]
 pub fn id_allowed(id: u8) -> bool
     ensures { result ≡ id_allowed id }
 {
-    if id < 7 {
-        return false;
-    }
-    if id <= 15 {
-        return true;
-    }
-    if id < 32 {
-        return false;
-    }
-    id <= 83
+    matches!(id, 7..=15 | 32..=83)
 }
 
 // How many strings an item with the id has.
+#[tactic(auto, unfolding(crate::specs::Kinds::has_uri))]
 pub fn item_strings(full: bool, id: u8) -> usize
     ensures { result ≡ item_strings full id }
 {
-    if full {
-        match id {
-            12 => 2,
-            14 => 2,
-            82 => 2,
-            _ => 1,
-        }
+    if full && matches!(id, 12 | 14 | 82) {
+        2
     } else {
         1
     }
@@ -180,46 +162,37 @@ pub fn item_strings(full: bool, id: u8) -> usize
 
 // The lengths of up to two strings that stand one behind the other, and where the next field starts.
 #[derive(Clone, Copy)]
-pub enum TwoAt {
-    At {
-        first: usize,
-        second: usize,
-        next: usize,
-    },
-    Refused(Refusal),
+pub struct TwoAt {
+    pub first: usize,
+    pub second: usize,
+    pub next: usize,
 }
 
 // Up to two strings from `at` on, judged; nothing is stored.
-pub fn two_at(bytes: &[u8], at: usize, n: usize) -> TwoAt
+pub fn two_at(bytes: &[u8], at: usize, n: usize) -> Result<TwoAt, Refusal>
     ensures { result ≡ two_at at (length bytes.now - at) (texts (min n 2) (drop at bytes.now)) }
 {
     if n == 0 {
-        return TwoAt::At {
+        return Ok(TwoAt {
             first: 0,
             second: 0,
             next: at,
-        };
+        });
     }
-    match basex_string::string_at(bytes, at) {
-        StringAt::Refused(r) => TwoAt::Refused(r),
-        StringAt::At { len, next } => {
-            if n == 1 {
-                return TwoAt::At {
-                    first: len,
-                    second: 0,
-                    next,
-                };
-            }
-            match basex_string::string_at(bytes, next) {
-                StringAt::Refused(r) => TwoAt::Refused(r),
-                StringAt::At { len: second, next } => TwoAt::At {
-                    first: len,
-                    second,
-                    next,
-                },
-            }
-        }
+    let one = basex_string::string_at(bytes, at)?;
+    if n == 1 {
+        return Ok(TwoAt {
+            first: one.len,
+            second: 0,
+            next: one.next,
+        });
     }
+    let two = basex_string::string_at(bytes, one.next)?;
+    Ok(TwoAt {
+        first: one.len,
+        second: two.len,
+        next: two.next,
+    })
 }
 
 // An inner tool of the readers: the texts of n judged strings from `at` on, one behind the other from
@@ -231,12 +204,10 @@ pub fn store_judged_texts(bytes: &[u8], at: usize, n: usize, out: &mut [u8], to:
 {
     let mut from = at;
     let mut end = to;
-    let mut i: usize = 0;
-    while i < n {
+    for _ in 0..n {
         let put = basex_string::store_judged_text(bytes, from, out, end);
         from = put.next;
         end = put.to;
-        i += 1;
     }
     Ends {
         next: from,
@@ -244,7 +215,15 @@ pub fn store_judged_texts(bytes: &[u8], at: usize, n: usize, out: &mut [u8], to:
     }
 }
 
+// Whether the text has a place, or is empty.
+pub fn has_place(present: bool, text: &[u8]) -> bool
+    ensures { result ≡ place_if present text.now }
+{
+    present || text.is_empty()
+}
+
 // How many bytes the text takes as a string where it is present.
+// A flag, not a closure: the tables of requests and replies have it.
 pub fn size_if(present: bool, text: &[u8]) -> usize
     ensures { result ≡ length (string_if present text.now) }
 {
@@ -252,5 +231,18 @@ pub fn size_if(present: bool, text: &[u8]) -> usize
         basex_string::string_len(text)
     } else {
         0
+    }
+}
+
+// The text as a string where it is present; where the next field starts. What does not fit is not put.
+// A flag, as above.
+pub fn put_string_if(out: &mut [u8], at: usize, present: bool, text: &[u8]) -> usize
+    ensures answers { at + length (string_if present text.now) ≤ length out.old → result ≡ at + length (string_if present text.now) }
+    ensures leaves { out.new ≡ put_at out.old at (string_if present text.now) }
+{
+    if present {
+        at + basex_string::write_string(out, at, text).unwrap_or(0)
+    } else {
+        at
     }
 }

@@ -1,8 +1,8 @@
 -- What a call answers, as a number: a count, or a refusal, which leaves all that was lent as it was.
+use Rattle.std.specs.Prelude.{Result, Ok, Err, ℕ}
 use mathlib.Core.{List.List, List.◌++◌, Path.◌≡◌}
-use Rattle.std.specs.Prelude.{ℕ}
 use lib.{Dec.ltb, ListN.length, ListN.drop}
-use Rattle.wire.specs.{Bytes.if, Call.Gives, Call.output_after, declared.Counted.Counted, declared.Refusal.Refusal}
+use Rattle.wire.specs.{Bytes.if, Call.Gives, Call.output_after, declared.Refusal.Refusal}
 use Rattle.answer_c.specs.Codes.{counted_code}
 
 -- a count and the numbers that are told with it, or a refusal
@@ -16,9 +16,9 @@ lent room (Outcome.refused r) = Outcome.refused r
 lent room (Outcome.counted n told) = if (ltb room (length told)) (Outcome.refused Refusal.NoRoom) (Outcome.counted n told)
 
 -- the same without what is told
-abbrev pub counted_of : Outcome → Counted
-counted_of (Outcome.refused r) = Counted.Refused r
-counted_of (Outcome.counted n told) = Counted.Count n
+abbrev pub counted_of : Outcome → Result ℕ Refusal
+counted_of (Outcome.refused r) = Err r
+counted_of (Outcome.counted n told) = Ok n
 
 abbrev pub code : Outcome → ℕ
 code o = counted_code (counted_of o)

@@ -3,62 +3,42 @@ ghost use Rattle.std.specs.Prelude.{◌≡◌, length};
 ghost use Rattle.basex_c.specs.Codes.{lent, Tells};
 ghost use Rattle.basex_c.specs.Told.{error_told, error_in, error_read};
 
+use crate::numbers;
 use answer_c::refusal_code;
-use basex::Found;
 use wire::{Place, Refusal};
 
-// Where the error stands in the output that the response was read into; none where the request did
-// not fail.
-#[derive(Clone, Copy)]
-pub enum ErrorIn {
-    At(Place),
-    None,
-    Refused(Refusal),
-}
-
 // By the six numbers that reading it told.
-fn error_in(kind: u8, response: &[u64]) -> ErrorIn
+fn error_in(kind: u8, response: &[u64]) -> Result<Option<Place>, Refusal>
     ensures { result ≡ error_in kind response.now }
 {
     if response.len() < 6 {
-        return ErrorIn::Refused(Refusal::NoRoom);
+        return Err(Refusal::NoRoom);
     }
-    match basex::find(kind) {
-        Found::Unknown => ErrorIn::Refused(Refusal::UnknownInstruction),
-        Found::Known(_, reply) => {
-            let status = response[4];
-            if 1 < status {
-                return ErrorIn::Refused(Refusal::ValueNotAllowed);
-            }
-            if status == 0 {
-                return ErrorIn::None;
-            }
-            ErrorIn::At(basex_response::error_at(
-                reply,
-                response[0] as usize,
-                response[1] as usize,
-                response[3] as usize,
-                response[5] as usize,
-            ))
-        }
+    let (_, reply) = basex::find(kind).ok_or(Refusal::UnknownInstruction)?;
+    let status = response[4];
+    if 1 < status {
+        return Err(Refusal::ValueNotAllowed);
     }
+    if status == 0 {
+        return Ok(None);
+    }
+    Ok(Some(basex_response::error_at(
+        reply,
+        response[0] as usize,
+        response[1] as usize,
+        response[3] as usize,
+        response[5] as usize,
+    )))
 }
 
 // Two numbers to the front of the lent ones; 0 and none where there is no error.
-fn tell_error(place: &mut [u64], answer: ErrorIn) -> u64
+fn tell_error(place: &mut [u64], answer: Result<Option<Place>, Refusal>) -> u64
     ensures { Tells (lent (length place.old) (error_told answer)) place.old result place.new }
 {
     match answer {
-        ErrorIn::Refused(r) => refusal_code(r),
-        ErrorIn::None => 0,
-        ErrorIn::At(at) => {
-            if place.len() < 2 {
-                return refusal_code(Refusal::NoRoom);
-            }
-            place[0] = at.start as u64;
-            place[1] = at.len as u64;
-            1
-        }
+        Err(r) => refusal_code(r),
+        Ok(None) => 0,
+        Ok(Some(at)) => numbers::tell(place, 1, &[at.start as u64, at.len as u64]),
     }
 }
 

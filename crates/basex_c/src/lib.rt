@@ -4,6 +4,7 @@
 #![tactic(auto)]
 
 mod errors;
+mod numbers;
 mod requests;
 mod responses;
 mod strings;

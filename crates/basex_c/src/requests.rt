@@ -7,35 +7,29 @@ ghost use Rattle.basex_c.specs.Codes.{lent, Tells, Reads};
 ghost use Rattle.answer_c.specs.Codes.{WritesByCode};
 ghost use Rattle.basex_c.specs.Told.{request_told, bytes_read, request_read};
 
+use crate::numbers;
 use crate::strings::usable;
 use answer_c::{counted_code, refusal_code};
 use basex_request::Requested;
 use wire::Refusal;
 
 // Five numbers to the front of the lent ones.
-fn tell(told: &mut [u64], answer: Requested) -> u64
+fn tell(told: &mut [u64], answer: Result<Requested, Refusal>) -> u64
     ensures { Tells (lent (length told.old) (request_told answer)) told.old result told.new }
 {
     match answer {
-        Requested::Refused(r) => refusal_code(r),
-        Requested::Read {
-            kind,
-            first,
-            second,
-            third,
-            fourth,
-            read,
-        } => {
-            if told.len() < 5 {
-                return refusal_code(Refusal::NoRoom);
-            }
-            told[0] = kind as u64;
-            told[1] = first as u64;
-            told[2] = second as u64;
-            told[3] = third as u64;
-            told[4] = fourth as u64;
-            read as u64
-        }
+        Err(r) => refusal_code(r),
+        Ok(m) => numbers::tell(
+            told,
+            m.read as u64,
+            &[
+                m.kind as u64,
+                m.first as u64,
+                m.second as u64,
+                m.third as u64,
+                m.fourth as u64,
+            ],
+        ),
     }
 }
 

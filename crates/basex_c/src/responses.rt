@@ -8,38 +8,30 @@ ghost use Rattle.basex_c.specs.Codes.{lent, Tells, Reads};
 ghost use Rattle.answer_c.specs.Codes.{WritesByCode};
 ghost use Rattle.basex_c.specs.Told.{response_told, bytes_read, response_read, item_told, item_in, item_read};
 
+use crate::numbers;
 use crate::strings::{span, usable};
 use answer_c::{counted_code, refusal_code};
-use basex::Found;
 use basex_response::{ItemAt, Replied};
 use wire::Refusal;
 
 // Six numbers to the front of the lent ones.
-fn tell(told: &mut [u64], answer: Replied) -> u64
+fn tell(told: &mut [u64], answer: Result<Replied, Refusal>) -> u64
     ensures { Tells (lent (length told.old) (response_told answer)) told.old result told.new }
 {
     match answer {
-        Replied::Refused(r) => refusal_code(r),
-        Replied::Read {
-            first,
-            second,
-            items,
-            listed,
-            status,
-            error,
-            read,
-        } => {
-            if told.len() < 6 {
-                return refusal_code(Refusal::NoRoom);
-            }
-            told[0] = first as u64;
-            told[1] = second as u64;
-            told[2] = items as u64;
-            told[3] = listed as u64;
-            told[4] = status as u64;
-            told[5] = error as u64;
-            read as u64
-        }
+        Err(r) => refusal_code(r),
+        Ok(m) => numbers::tell(
+            told,
+            m.read as u64,
+            &[
+                m.first as u64,
+                m.second as u64,
+                m.items as u64,
+                m.listed as u64,
+                m.status as u64,
+                m.error as u64,
+            ],
+        ),
     }
 }
 
@@ -59,46 +51,36 @@ pub fn kdr_basex_read_response(kind: u8, bytes: &[u8], out: &mut [u8], told: &mu
 }
 
 // Three numbers to the front of the lent ones; 0 and none at the end of the items.
-fn tell_item(told: &mut [u64], at: usize, answer: ItemAt) -> u64
+fn tell_item(told: &mut [u64], at: usize, answer: Result<ItemAt, Refusal>) -> u64
     ensures { Tells (lent (length told.old) (item_told at answer)) told.old result told.new }
 {
     match answer {
-        ItemAt::Refused(r) => refusal_code(r),
-        ItemAt::End { next: _ } => 0,
-        ItemAt::Item {
-            id,
-            uri,
-            text,
-            next,
-        } => {
-            if told.len() < 3 {
-                return refusal_code(Refusal::NoRoom);
-            }
-            told[0] = id as u64;
-            told[1] = uri as u64;
-            told[2] = text as u64;
-            span(at, next)
-        }
+        Err(r) => refusal_code(r),
+        Ok(ItemAt::End { next: _ }) => 0,
+        Ok(
+            ItemAt::Item {
+                id,
+                uri,
+                text,
+                next,
+            },
+        ) => numbers::tell(told, span(at, next), &[id as u64, uri as u64, text as u64]),
     }
 }
 
 // What stands at `at` in the items of a response to a request that starts with the byte `kind`: no
 // byte there is judged ahead of the kind, as in reading the whole response.
-fn item_in(kind: u8, bytes: &[u8], at: usize) -> ItemAt
+fn item_in(kind: u8, bytes: &[u8], at: usize) -> Result<ItemAt, Refusal>
     ensures { result ≡ item_in kind bytes.now at }
 {
     if bytes.len() <= at {
-        return ItemAt::Refused(Refusal::MoreBytes);
+        return Err(Refusal::MoreBytes);
     }
-    match basex::find(kind) {
-        Found::Unknown => ItemAt::Refused(Refusal::UnknownInstruction),
-        Found::Known(_, reply) => {
-            if basex::is_listed(reply) {
-                return basex_response::item_at(basex::is_full(reply), bytes, at);
-            }
-            ItemAt::Refused(Refusal::ValueNotAllowed)
-        }
+    let (_, reply) = basex::find(kind).ok_or(Refusal::UnknownInstruction)?;
+    if !basex::is_listed(reply) {
+        return Err(Refusal::ValueNotAllowed);
     }
+    basex_response::item_at(basex::is_full(reply), bytes, at)
 }
 
 // The item at `at` in the bytes of a response to a request that starts with the byte `kind`; told

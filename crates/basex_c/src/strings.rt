@@ -8,6 +8,7 @@ ghost use Rattle.basex_c.specs.Codes.{lent, Tells, Reads};
 ghost use Rattle.answer_c.specs.Codes.{WritesByCode};
 ghost use Rattle.basex_c.specs.Told.{string_told, bytes_read, judging, decoding};
 
+use crate::numbers;
 use answer_c::{counted_code, refusal_code};
 use basex_string::StringAt;
 use wire::Refusal;
@@ -43,18 +44,12 @@ pub(crate) fn usable(out: usize, told: usize, lent: usize) -> usize
 }
 
 // One number to the front of the lent ones.
-fn tell(told: &mut [u64], at: usize, place: StringAt) -> u64
+fn tell(told: &mut [u64], at: usize, place: Result<StringAt, Refusal>) -> u64
     ensures { Tells (lent (length told.old) (string_told at place)) told.old result told.new }
 {
     match place {
-        StringAt::Refused(r) => refusal_code(r),
-        StringAt::At { len, next } => {
-            if told.len() < 1 {
-                return refusal_code(Refusal::NoRoom);
-            }
-            told[0] = len as u64;
-            span(at, next)
-        }
+        Err(r) => refusal_code(r),
+        Ok(found) => numbers::tell(told, span(at, found.next), &[found.len as u64]),
     }
 }
 

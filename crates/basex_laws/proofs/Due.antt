@@ -1,4 +1,6 @@
 -- Writing: only published values are written, each as its encoding, and every other call gets the refusal that is due.
+use Rattle.std.specs.Prelude.{Option, Some, None, Result, Ok, Err}
+use Rattle.wire.specs.declared.Refusal.{Refusal}
 use mathlib.Core.Path.{◌≡◌, refl, sym, ap, ap₂, ◌∙◌}
 use mathlib.Core.List.{List, [], ◌∷◌, flatten}
 use mathlib.Core.Bool.{Bool, true, false}
@@ -13,10 +15,6 @@ use Rattle.wire.specs.Call.{in_room, output_after}
 use Rattle.wire.specs.declared.Refusal.TheVariants.{NoEncoding, NoRoom}
 use Rattle.wire.proofs.Call.{room-there}
 use Rattle.basex_string.specs.Strings.{string}
-use Rattle.wire.specs.declared.Counted.{Counted}
-use Rattle.wire.specs.declared.Counted.TheVariants.{Count, Refused}
-use Rattle.basex.specs.declared.Found.{Found}
-use Rattle.basex.specs.declared.Found.TheVariants.{Known, Unknown}
 use Rattle.basex.specs.declared.Reply.{Reply}
 use Rattle.basex.specs.Kinds.{find_of, is_command}
 use Rattle.basex.specs.Request as request
@@ -34,15 +32,15 @@ use Rattle.basex_laws.proofs.Chosen.{chosen, exactly, roomed, room_back, no-room
 use Rattle.basex_laws.proofs.Spare.{spare-found, spare-unused, none-spare}
 
 module _ (room at : ℕ) (text : List ℕ) where
-  abbrev StringDue : Counted → Type 0
-  StringDue (Count n) = Fits room at (string text) n
-  StringDue (Refused r) = (r ≡ NoRoom) × (room < at + length (string text))
+  abbrev StringDue : Result ℕ Refusal → Type 0
+  StringDue (Ok n) = Fits room at (string text) n
+  StringDue (Err r) = (r ≡ NoRoom) × (room < at + length (string text))
 
-  string_back : (y : Counted) → StringDue y → in_room room at (length (string text)) ≡ y
-  string_back (Count n) f = room_back (in_room room at (length (string text))) room at (string text) refl n f
-  string_back (Refused r) p = no-room_back (in_room room at (length (string text))) room at (string text) refl p.1 ∙ ap Refused (sym p.0)
+  string_back : (y : Result ℕ Refusal) → StringDue y → in_room room at (length (string text)) ≡ y
+  string_back (Ok n) f = room_back (in_room room at (length (string text))) room at (string text) refl n f
+  string_back (Err r) p = no-room_back (in_room room at (length (string text))) room at (string text) refl p.1 ∙ ap Err (sym p.0)
 
-  pub string-exactly : (y : Counted) → (in_room room at (length (string text)) ≡ y) ↔ StringDue y
+  pub string-exactly : (y : Result ℕ Refusal) → (in_room room at (length (string text)) ≡ y) ↔ StringDue y
   string-exactly y = exactly StringDue (in_room room at (length (string text))) (roomed StringDue room at (string text) (λ n f. f) (λ h. (refl, h))) y (string_back y)
 
 module _ (room kind : ℕ) (ts : List (List ℕ)) where
@@ -53,23 +51,23 @@ module _ (room kind : ℕ) (ts : List (List ℕ)) where
   request-means : (q : Request) → Means kind ts q → request.Published q → written room kind ts ≡ in_room room 0 (length (request.encode q))
   request-means q m p = meant q m ∙ published-written q p room
 
-  abbrev Due : Counted → Type 0
-  Due (Count n) = (q : Request) × Means kind ts q × request.Published q × Fits room 0 (request.encode q) n
-  Due (Refused r) = Unwritten room kind ts r
+  abbrev Due : Result ℕ Refusal → Type 0
+  Due (Ok n) = (q : Request) × Means kind ts q × request.Published q × Fits room 0 (request.encode q) n
+  Due (Err r) = Unwritten room kind ts r
 
-  request_back : (y : Counted) → Due y → written room kind ts ≡ y
+  request_back : (y : Result ℕ Refusal) → Due y → written room kind ts ≡ y
   unfolding written flatten
-  request_back (Count n) w = room_back (written room kind ts) room 0 (request.encode w.0) (request-means w.0 w.1 w.2) n w.3
-  request_back (Refused r) (Unwritten.unknown f) = rw f refl
-  request_back (Refused r) (Unwritten.spare n reply f s) = rw f (rw (spare-unused ts n s) refl)
-  request_back (Refused r) (Unwritten.command t m o) = meant (Request.command t) m ∙ rw (starts_command_lem 0x20 refl) (rw o refl)
-  request_back (Refused r) (Unwritten.no_room q m p h) = no-room_back (written room kind ts) room 0 (request.encode q) (request-means q m p) (omega arith)
+  request_back (Ok n) w = room_back (written room kind ts) room 0 (request.encode w.0) (request-means w.0 w.1 w.2) n w.3
+  request_back (Err r) (Unwritten.unknown f) = rw f refl
+  request_back (Err r) (Unwritten.spare n reply f s) = rw f (rw (spare-unused ts n s) refl)
+  request_back (Err r) (Unwritten.command t m o) = meant (Request.command t) m ∙ rw (starts_command_lem 0x20 refl) (rw o refl)
+  request_back (Err r) (Unwritten.no_room q m p h) = no-room_back (written room kind ts) room 0 (request.encode q) (request-means q m p) (omega arith)
 
 module _ (room kind : ℕ) (a b c d : List ℕ) where
   abbrev ts : List (List ℕ)
   ts = a ∷ b ∷ c ∷ d ∷ []
 
-  module _ (m : ℕ) (reply : Reply) (found : find_of kind ≡ Known m reply) (u : unused m (a ∷ b ∷ c ∷ d ∷ []) ≡ true) where
+  module _ (m : ℕ) (reply : Reply) (found : find_of kind ≡ Some (m, reply)) (u : unused m (a ∷ b ∷ c ∷ d ∷ []) ≡ true) where
     -- only a COMMAND can have no encoding
     no_encoding : (f : Bool) → is_command reply ≡ f → encodable (if f (Request.command a) (Request.coded kind (take m ts))) ≡ false → Unwritten room kind ts NoEncoding
     no_encoding false h o = apart (cc)
@@ -89,7 +87,7 @@ module _ (room kind : ℕ) (a b c d : List ℕ) where
         fits : encodable (request_of kind m reply ts) ≡ true → Due room kind ts (in_room room 0 (length (request.encode (request_of kind m reply ts))))
         fits o =
             let n = length (request.encode (request_of kind m reply ts)) in
-            let e : written n kind ts ≡ Count n = rw found (rw u (rw o (room-there n 0 n (omega arith)))) in
+            let e : written n kind ts ≡ Ok n = rw found (rw u (rw o (room-there n 0 n (omega arith)))) in
             let w = (writing_exact n kind a b c d n).0 e in
             let l = w.4 in
             let means : Means kind ts w.0 = record { named = w.2; given = w.3 } in
@@ -100,11 +98,11 @@ module _ (room kind : ℕ) (a b c d : List ℕ) where
   unfolding written
   due = by (find_of kind) refl
     where
-      by : (f : Found) → find_of kind ≡ f → Due room kind ts (written_as room kind f ts)
-      by Unknown p = Unwritten.unknown p
-      by (Known m reply) p = chosen (Due room kind ts) (unused m ts) (request-due m reply p) (λ u. Unwritten.spare m reply p (spare-found ts m u))
+      by : (f : Option (ℕ × Reply)) → find_of kind ≡ f → Due room kind ts (written_as room kind f ts)
+      by None p = Unwritten.unknown p
+      by (Some (m, reply)) p = chosen (Due room kind ts) (unused m ts) (request-due m reply p) (λ u. Unwritten.spare m reply p (spare-found ts m u))
 
-  pub request-exactly : (y : Counted) → (written room kind (a ∷ b ∷ c ∷ d ∷ []) ≡ y) ↔ Due room kind (a ∷ b ∷ c ∷ d ∷ []) y
+  pub request-exactly : (y : Result ℕ Refusal) → (written room kind (a ∷ b ∷ c ∷ d ∷ []) ≡ y) ↔ Due room kind (a ∷ b ∷ c ∷ d ∷ []) y
   request-exactly y = exactly (Due room kind ts) (written room kind ts) due y (request_back room kind ts y)
 
 -- .. and its encoding stands in the output then
@@ -113,5 +111,5 @@ pub request_there : (out : List ℕ) (kind : ℕ) (ts : List (List ℕ)) (q : Re
 request_there out kind ts q m p h =
     let n = length (request.encode q) in
     let f : Fits (length out) 0 (request.encode q) n = record { count = refl; within = omega arith } in
-    ap (λ (c : Counted). output_after c out 0 (bytes_of kind ts)) (request_back (length out) kind ts (Count n) (q, m, p, f))
+    ap (λ (c : Result ℕ Refusal). output_after c out 0 (bytes_of kind ts)) (request_back (length out) kind ts (Ok n) (q, m, p, f))
     ∙ ap (splice out 0) (wrote-bytes (length out) kind n ts (q, p, m.named, m.given, refl, h))

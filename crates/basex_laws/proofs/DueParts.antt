@@ -1,4 +1,6 @@
 -- Writing a response item by item and its end: only published values are written, and every other call gets the refusal that is due.
+use Rattle.std.specs.Prelude.{Option, Some, None, Result, Ok, Err}
+use Rattle.wire.specs.declared.Refusal.{Refusal}
 use mathlib.Core.Path.{◌≡◌, refl, sym, ap, subst, ◌∙◌}
 use mathlib.Core.List.{List, [], ◌∷◌}
 use mathlib.Core.Bool.{Bool, true, false}
@@ -11,10 +13,6 @@ use borrow.Author.Tests.{leb-true, leb-false, lt-leb}
 use Rattle.wire.specs.Bytes.{if, splice}
 use Rattle.wire.specs.Call.{in_room, output_after}
 use Rattle.wire.specs.declared.Refusal.TheVariants.{ValueNotAllowed}
-use Rattle.wire.specs.declared.Counted.{Counted}
-use Rattle.wire.specs.declared.Counted.TheVariants.{Count, Refused}
-use Rattle.basex.specs.declared.Found.{Found}
-use Rattle.basex.specs.declared.Found.TheVariants.{Known, Unknown}
 use Rattle.basex.specs.declared.Reply.{Reply}
 use Rattle.basex.specs.Kinds.{find_of, ahead, behind, listed, is_full, id_allowed, has_uri, status_allowed}
 use Rattle.basex.specs.Response.{Item, Response, item_bytes, encode, ListAllowed}
@@ -29,10 +27,10 @@ use Rattle.basex_laws.proofs.Spare.{spare-found, spare-unused, none-spare, given
 use Rattle.basex_laws.proofs.Wrote.{uri-fits}
 
 -- the answer 8
-abbrev Eight : Counted → Type 0
-Eight x = x ≡ Refused ValueNotAllowed
+abbrev Eight : Result ℕ Refusal → Type 0
+Eight x = x ≡ Err ValueNotAllowed
 
-eight : {P : Type 0} → P → Eight (Refused ValueNotAllowed)
+eight : {P : Type 0} → P → Eight (Err ValueNotAllowed)
 eight p = refl
 
 module _ (room at kind id : ℕ) (uri text : List ℕ) where
@@ -43,22 +41,22 @@ module _ (room at kind id : ℕ) (uri text : List ℕ) where
       rw (sym m.named, sym m.one, sym m.two) (rw m.known
       (rw (m.list, m.allowed.0) (rw (uri-fits full i) (ap (λ (j : Item). in_room room at (length (item_bytes j))) (made full i m.allowed.1).is))))
 
-  abbrev ItemDue : Counted → Type 0
-  ItemDue (Count n) = (i : Item) × MeansItem kind id uri text i × Fits room at (item_bytes i) n
-  ItemDue (Refused r) = ItemUnwritten room at kind id uri text r
+  abbrev ItemDue : Result ℕ Refusal → Type 0
+  ItemDue (Ok n) = (i : Item) × MeansItem kind id uri text i × Fits room at (item_bytes i) n
+  ItemDue (Err r) = ItemUnwritten room at kind id uri text r
 
-  item_back : (y : Counted) → ItemDue y → item_written room at kind id uri text ≡ y
+  item_back : (y : Result ℕ Refusal) → ItemDue y → item_written room at kind id uri text ≡ y
   unfolding item_written
-  item_back (Count n) w = room_back (item_written room at kind id uri text) room at (item_bytes w.0) (item-means w.0 w.1) n w.2
-  item_back (Refused r) (ItemUnwritten.unknown f) = rw f refl
-  item_back (Refused r) (ItemUnwritten.unlisted n reply f l) = rw f (rw l refl)
-  item_back (Refused r) (ItemUnwritten.bad_id n reply f h) = rw f (rw h (chosen Eight (listed reply) eight eight))
-  item_back (Refused r) (ItemUnwritten.spare n reply f h u) =
+  item_back (Ok n) w = room_back (item_written room at kind id uri text) room at (item_bytes w.0) (item-means w.0 w.1) n w.2
+  item_back (Err r) (ItemUnwritten.unknown f) = rw f refl
+  item_back (Err r) (ItemUnwritten.unlisted n reply f l) = rw f (rw l refl)
+  item_back (Err r) (ItemUnwritten.bad_id n reply f h) = rw f (rw h (chosen Eight (listed reply) eight eight))
+  item_back (Err r) (ItemUnwritten.spare n reply f h u) =
       let s : Spare 0 (uri ∷ []) = record { number = 0; beyond = omega arith; filled = u } in
       rw f (rw (h, spare-unused (uri ∷ []) 0 s) (chosen Eight (listed reply) (λ _. chosen Eight (id_allowed id) eight eight) eight))
-  item_back (Refused r) (ItemUnwritten.no_room i m h) = no-room_back (item_written room at kind id uri text) room at (item_bytes i) (item-means i m) h
+  item_back (Err r) (ItemUnwritten.no_room i m h) = no-room_back (item_written room at kind id uri text) room at (item_bytes i) (item-means i m) h
 
-  module _ (n : ℕ) (reply : Reply) (found : find_of kind ≡ Known n reply) where
+  module _ (n : ℕ) (reply : Reply) (found : find_of kind ≡ Some (n, reply)) where
     -- the item that is meant where nothing is refused
     item-meant : listed reply ≡ true → id_allowed id ≡ true → if (has_uri (is_full reply) id) true (unused 0 (uri ∷ [])) ≡ true → MeansItem kind id uri text (item_of (is_full reply) id uri text)
     item-meant l a u = by (has_uri (is_full reply) id) refl u
@@ -94,9 +92,9 @@ module _ (room at kind id : ℕ) (uri text : List ℕ) where
   unfolding item_written
   item_due = by (find_of kind) refl
     where
-      by : (f : Found) → find_of kind ≡ f → ItemDue (item_written_as room at f id uri text)
-      by Unknown p = ItemUnwritten.unknown p
-      by (Known n reply) p =
+      by : (f : Option (ℕ × Reply)) → find_of kind ≡ f → ItemDue (item_written_as room at f id uri text)
+      by None p = ItemUnwritten.unknown p
+      by (Some (n, reply)) p =
           let i = item_of (is_full reply) id uri text in
           chosen ItemDue (listed reply)
           (λ l. chosen ItemDue (id_allowed id)
@@ -106,16 +104,16 @@ module _ (room at kind id : ℕ) (uri text : List ℕ) where
           (ItemUnwritten.bad_id n reply p))
           (ItemUnwritten.unlisted n reply p)
 
-  pub item-exactly : (y : Counted) → (item_written room at kind id uri text ≡ y) ↔ ItemDue y
+  pub item-exactly : (y : Result ℕ Refusal) → (item_written room at kind id uri text ≡ y) ↔ ItemDue y
   item-exactly y = exactly ItemDue (item_written room at kind id uri text) item_due y (item_back y)
 
 -- .. and its bytes stand in the output then
 pub item_there : (out : List ℕ) (at kind id : ℕ) (uri text : List ℕ) (i : Item) → MeansItem kind id uri text i → at + length (item_bytes i) ≤ length out
     → output_after (item_written (length out) at kind id uri text) out at (item_bytes (item_of (full_of (find_of kind)) id uri text)) ≡ splice out at (item_bytes i)
 item_there out at kind id uri text i m h =
-    let w = item_back (length out) at kind id uri text (Count (length (item_bytes i))) (i, m, record { count = refl; within = h }) in
+    let w = item_back (length out) at kind id uri text (Ok (length (item_bytes i))) (i, m, record { count = refl; within = h }) in
     let e : item_of (full_of (find_of kind)) id uri text ≡ i = rw (sym m.named, sym m.one, sym m.two) (rw m.known (made (is_full m.reply) i m.allowed.1).is) in
-    ap (λ (c : Counted). output_after c out at (item_bytes (item_of (full_of (find_of kind)) id uri text))) w ∙ rw e refl
+    ap (λ (c : Result ℕ Refusal). output_after c out at (item_bytes (item_of (full_of (find_of kind)) id uri text))) w ∙ rw e refl
 
 -- a response that may be written as an end: its texts and its error are what is given, and none is spare
 module _ (kind : ℕ) (first second : List ℕ) (status : ℕ) (error : List ℕ) (reply : Reply) (r : Response) (m : MeansEnd kind first second status error reply r) where
@@ -152,24 +150,24 @@ module _ (kind : ℕ) (first second : List ℕ) (status : ℕ) (error : List ℕ
       rw m.known (rw s (rw texts-taken.1 (rw error-taken.1 (ap (λ (q : Response). in_room room at (length (encode reply q))) end_is))))
 
 module _ (room at kind : ℕ) (first second : List ℕ) (status : ℕ) (error : List ℕ) where
-  abbrev answer : Counted
+  abbrev answer : Result ℕ Refusal
   answer = end_written room at kind first second status error
 
-  abbrev EndDue : Counted → Type 0
-  EndDue (Count n) = (reply : Reply) × (r : Response) × MeansEnd kind first second status error reply r × Fits room at (encode reply r) n
-  EndDue (Refused r) = EndUnwritten room at kind first second status error r
+  abbrev EndDue : Result ℕ Refusal → Type 0
+  EndDue (Ok n) = (reply : Reply) × (r : Response) × MeansEnd kind first second status error reply r × Fits room at (encode reply r) n
+  EndDue (Err r) = EndUnwritten room at kind first second status error r
 
-  end_back : (y : Counted) → EndDue y → answer ≡ y
+  end_back : (y : Result ℕ Refusal) → EndDue y → answer ≡ y
   unfolding end_written
-  end_back (Count n) w = room_back answer room at (encode w.0 w.1) (end-means kind first second status error w.0 w.1 w.2 room at) n w.3
-  end_back (Refused r) (EndUnwritten.unknown f) = rw f refl
-  end_back (Refused r) (EndUnwritten.bad_status n reply f h) = rw f (rw (lt-leb status 1 h) refl)
-  end_back (Refused r) (EndUnwritten.spare n reply f s) = rw f (rw (spare-unused (first ∷ second ∷ []) (ahead reply) s) (chosen Eight (status_allowed status) eight eight))
-  end_back (Refused r) (EndUnwritten.spare_error n reply f s) =
+  end_back (Ok n) w = room_back answer room at (encode w.0 w.1) (end-means kind first second status error w.0 w.1 w.2 room at) n w.3
+  end_back (Err r) (EndUnwritten.unknown f) = rw f refl
+  end_back (Err r) (EndUnwritten.bad_status n reply f h) = rw f (rw (lt-leb status 1 h) refl)
+  end_back (Err r) (EndUnwritten.spare n reply f s) = rw f (rw (spare-unused (first ∷ second ∷ []) (ahead reply) s) (chosen Eight (status_allowed status) eight eight))
+  end_back (Err r) (EndUnwritten.spare_error n reply f s) =
       rw f (rw (spare-unused (error ∷ []) (behind reply status) s) (chosen Eight (status_allowed status) (λ _. chosen Eight (unused (ahead reply) (first ∷ second ∷ [])) eight eight) eight))
-  end_back (Refused r) (EndUnwritten.no_room reply p m h) = no-room_back answer room at (encode reply p) (end-means kind first second status error reply p m room at) h
+  end_back (Err r) (EndUnwritten.no_room reply p m h) = no-room_back answer room at (encode reply p) (end-means kind first second status error reply p m room at) h
 
-  module _ (n : ℕ) (reply : Reply) (found : find_of kind ≡ Known n reply) where
+  module _ (n : ℕ) (reply : Reply) (found : find_of kind ≡ Some (n, reply)) where
     none-listed : ListAllowed (listed reply) (is_full reply) []
     none-listed = by (listed reply)
       where
@@ -204,9 +202,9 @@ module _ (room at kind : ℕ) (first second : List ℕ) (status : ℕ) (error : 
   unfolding end_written
   end-due = by (find_of kind) refl
     where
-      by : (f : Found) → find_of kind ≡ f → EndDue (end_written_as room at f first second status error)
-      by Unknown p = EndUnwritten.unknown p
-      by (Known n reply) p =
+      by : (f : Option (ℕ × Reply)) → find_of kind ≡ f → EndDue (end_written_as room at f first second status error)
+      by None p = EndUnwritten.unknown p
+      by (Some (n, reply)) p =
           let r = end_of reply first second status error in
           chosen EndDue (status_allowed status)
           (λ s. chosen EndDue (unused (ahead reply) (first ∷ second ∷ []))
@@ -216,13 +214,13 @@ module _ (room at kind : ℕ) (first second : List ℕ) (status : ℕ) (error : 
           (λ u. EndUnwritten.spare n reply p (spare-found (first ∷ second ∷ []) (ahead reply) u)))
           (λ s. EndUnwritten.bad_status n reply p (leb-false status 1 s))
 
-  pub end-exactly : (y : Counted) → (end_written room at kind first second status error ≡ y) ↔ EndDue y
+  pub end-exactly : (y : Result ℕ Refusal) → (end_written room at kind first second status error ≡ y) ↔ EndDue y
   end-exactly y = exactly EndDue answer end-due y (end_back y)
 
 pub end_there : (out : List ℕ) (at kind : ℕ) (first second : List ℕ) (status : ℕ) (error : List ℕ) (reply : Reply) (r : Response)
     → MeansEnd kind first second status error reply r → at + length (encode reply r) ≤ length out
     → output_after (end_written (length out) at kind first second status error) out at (end_bytes (find_of kind) first second status error) ≡ splice out at (encode reply r)
 end_there out at kind first second status error reply r m h =
-    let w = end_back (length out) at kind first second status error (Count (length (encode reply r))) (reply, r, m, record { count = refl; within = h }) in
+    let w = end_back (length out) at kind first second status error (Ok (length (encode reply r))) (reply, r, m, record { count = refl; within = h }) in
     let e : end_bytes (find_of kind) first second status error ≡ encode reply r = rw m.known (ap (encode reply) (end_is kind first second status error reply r m)) in
-    ap (λ (c : Counted). output_after c out at (end_bytes (find_of kind) first second status error)) w ∙ rw e refl
+    ap (λ (c : Result ℕ Refusal). output_after c out at (end_bytes (find_of kind) first second status error)) w ∙ rw e refl

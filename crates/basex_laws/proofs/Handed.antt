@@ -1,4 +1,5 @@
 -- A caller who walks the items gets each of them, with its id, URI and text.
+use Rattle.std.specs.Prelude.{Ok}
 use mathlib.Core.Path.{◌≡◌, refl, sym, ap, ap₂, ◌∙◌}
 use mathlib.Core.List.{List, [], ◌∷◌, ◌++◌, append_assoc, append-nil, flatten, flat_map}
 use mathlib.Core.Bool.{Bool, true, false}
@@ -41,22 +42,22 @@ module _ (full : Bool) where
   -- at an item, and at the end, whatever stands ahead
   module _ (s front rest : List ℕ) where
     pub item-told : (i : Item) → ItemAllowed full i → s ≡ front ++ (item_bytes i ++ rest)
-        → item_at full (length front) (length s - length front) (next full (drop (length front) s)) ≡ item-at.Item i.id (uri_length full i) (text_length full i) (length front + length (item_bytes i))
+        → item_at full (length front) (length s - length front) (next full (drop (length front) s)) ≡ Ok (item-at.Item i.id (uri_length full i) (text_length full i) (length front + length (item_bytes i)))
     item-told i a e =
         let d : drop (length front) s ≡ item_bytes i ++ rest = ap (drop (length front)) e ∙ drop-append_seam front (item_bytes i ++ rest) in
         let n : next full (drop (length front) s) ≡ Got.got (Next.item i) rest = ap (next full) d ∙ next-item full i rest a in
         let l = ap length e ∙ length-append front (item_bytes i ++ rest) in
         let m = length-append (item_bytes i) rest in
         let k : length front + (length s - length front - length rest) ≡ length front + length (item_bytes i) = omega arith in
-        rw n (ap (item-at.Item i.id (uri_length full i) (text_length full i)) k)
+        rw n (ap (λ (m : ℕ). Ok (item-at.Item i.id (uri_length full i) (text_length full i) m)) k)
 
-    pub end-told : s ≡ front ++ (0 ∷ rest) → item_at full (length front) (length s - length front) (next full (drop (length front) s)) ≡ item-at.End (length front + 1)
+    pub end-told : s ≡ front ++ (0 ∷ rest) → item_at full (length front) (length s - length front) (next full (drop (length front) s)) ≡ Ok (item-at.End (length front + 1))
     end-told e =
         let d : drop (length front) s ≡ 0 ∷ rest = ap (drop (length front)) e ∙ drop-append_seam front (0 ∷ rest) in
         let n : next full (drop (length front) s) ≡ Got.got Next.end rest = ap (next full) d ∙ next-end full rest in
         let l = ap length e ∙ length-append front (0 ∷ rest) in
         let k : length front + (length s - length front - length rest) ≡ length front + 1 = omega arith in
-        rw n (ap item-at.End k)
+        rw n (ap (λ (m : ℕ). Ok (item-at.End m)) k)
 
   -- a text that stands in the output behind so many bytes
   text-there : (out before t rest : List ℕ) → out ≡ before ++ (t ++ rest) → take (length t) (drop (length before) out) ≡ t

@@ -1,4 +1,5 @@
 -- Responses as a caller sees them: read after written, written after read, the items handed out, and refusals.
+use Rattle.std.specs.Prelude.{Err, Some}
 use mathlib.Core.Path.{◌≡◌, refl, sym, ap, ap₂, ◌∙◌}
 use mathlib.Core.List.{List, [], ◌∷◌, ◌++◌, append_assoc, flatten, flat_map}
 use mathlib.Core.Bool.{Bool, true, false}
@@ -13,14 +14,12 @@ use Rattle.wire.specs.Call.{put_at}
 use Rattle.wire.specs.Fields.{Got}
 use Rattle.wire.specs.declared.Refusal.{Refusal}
 use Rattle.wire.proofs.Splices.{put_at-fits, put_at_not}
-use Rattle.basex.specs.declared.Found.TheVariants.{Known}
 use Rattle.basex_string.specs.Answers.{output_read}
 use Rattle.basex.specs.declared.Reply.{Reply}
 use Rattle.basex.specs.declared.Reply.TheVariants.{Command, Create, Query, Results, Full}
 use Rattle.basex.specs.Kinds.{find_of, ahead, listed, is_full}
 use Rattle.basex.specs.Response.{Response, items_bytes, list_bytes, encode, ItemsAllowed, Published}
 use Rattle.basex.specs.Texts.{strings}
-use Rattle.basex_response.specs.declared.Replied.TheVariants as replied
 use Rattle.basex_response.specs.Items.{item_texts}
 use Rattle.basex_response.specs.Reading.{reading, all_texts, answered, text_bytes}
 use Rattle.basex_response.specs.Writing.{full_of}
@@ -31,7 +30,7 @@ use Rattle.basex_laws.proofs.Responses.{response_exact}
 use Rattle.basex_laws.proofs.Wrote.{response_written}
 
 -- what was written reads as the same response, and what stands behind it is left
-pub read_written : (kind n : ℕ) (reply : Reply) → find_of kind ≡ Known n reply → (r : Response) → Published reply r → (rest : List ℕ) → reading kind (encode reply r ++ rest) ≡ Got.got r rest
+pub read_written : (kind n : ℕ) (reply : Reply) → find_of kind ≡ Some (n, reply) → (r : Response) → Published reply r → (rest : List ℕ) → reading kind (encode reply r ++ rest) ≡ Got.got r rest
 read_written kind n reply k r p rest = (response_exact kind (encode reply r ++ rest) r rest).1 (record { strings = n; reply = reply; known = k; published = p; encoded = refl })
 
 -- what stands behind does not matter
@@ -56,14 +55,14 @@ write_read kind s r rest e out room =
     w ∙ ap₂ (λ (b : List ℕ) (m : ℕ). record { bytes = splice out 0 b; at = m }) (sym t) m
 
 -- a refused reading leaves every byte of the lent output
-pub refused-left : (kind : ℕ) (s out : List ℕ) (r : Refusal) → answered (length s) (length out) (reading kind s) ≡ replied.Refused r → output_read text_bytes out 0 (reading kind s) ≡ out
+pub refused-left : (kind : ℕ) (s out : List ℕ) (r : Refusal) → answered (length s) (length out) (reading kind s) ≡ Err r → output_read text_bytes out 0 (reading kind s) ≡ out
 refused-left kind s out r e = by (reading kind s) e
   where
-    by : (x : Got Response) → answered (length s) (length out) x ≡ replied.Refused r → output_read text_bytes out 0 x ≡ out
+    by : (x : Got Response) → answered (length s) (length out) x ≡ Err r → output_read text_bytes out 0 x ≡ out
     by (Got.refused q) d = refl
     by (Got.got p rest) d = room (ltb (length out) (length (flatten (all_texts p)))) refl d
       where
-        room : (b : Bool) → ltb (length out) (length (flatten (all_texts p))) ≡ b → answered (length s) (length out) (Got.got p rest) ≡ replied.Refused r → put_at out 0 (flatten (all_texts p)) ≡ out
+        room : (b : Bool) → ltb (length out) (length (flatten (all_texts p))) ≡ b → answered (length s) (length out) (Got.got p rest) ≡ Err r → put_at out 0 (flatten (all_texts p)) ≡ out
         room true f d = let k : length out < length (flatten (all_texts p)) = ltb-true _ _ f in put_at_not out 0 (flatten (all_texts p)) (omega arith)
         room false f d = let g = rw f at d in let z : ◌≡◌ {A = ℕ} 0 1 = cc in absurd (omega arith)
 

@@ -1,4 +1,5 @@
 -- What reading a response refuses with.
+use Rattle.std.specs.Prelude.{Option, Some, None}
 use mathlib.Core.Path.{◌≡◌, refl, sym, ◌∙◌}
 use mathlib.Core.List.{List, [], ◌∷◌}
 use mathlib.Core.Bool.{Bool, true, false}
@@ -11,8 +12,6 @@ use Rattle.wire.specs.Fields.{Got, Field, go_on, give, required}
 use Rattle.wire.specs.declared.Refusal.{Refusal}
 use Rattle.wire.specs.declared.Refusal.TheVariants.{UnknownInstruction, ValueNotAllowed}
 use Rattle.wire.proofs.Fields.{Split, stopped}
-use Rattle.basex.specs.declared.Found.{Found}
-use Rattle.basex.specs.declared.Found.TheVariants.{Known, Unknown}
 use Rattle.basex.specs.declared.Reply.{Reply}
 use Rattle.basex.specs.Kinds.{find_of, ahead, behind, listed, is_full, status_allowed}
 use Rattle.basex.specs.Response.{Item, Response}
@@ -66,7 +65,7 @@ pub reading_refuses : (kind : ℕ) (s : List ℕ) (r : Refusal) → reading kind
 unfolding reading
 reading_refuses kind s r e = by (find_of kind) refl s e
   where
-    by : (f : Found) → find_of kind ≡ f → (s : List ℕ) → reading kind s ≡ Got.refused r → (r ≡ UnknownInstruction) ⊎ OfFields r
-    by Unknown k [] e = inr (inl (cc))
-    by Unknown k (b ∷ s) e = let d : Got.refused UnknownInstruction ≡ Got.refused r = rw k at e in inl (cc)
-    by (Known n reply) k s e = inr (fields-refuse reply r s (sym (reading-known kind n reply k s) ∙ e))
+    by : (f : Option (ℕ × Reply)) → find_of kind ≡ f → (s : List ℕ) → reading kind s ≡ Got.refused r → (r ≡ UnknownInstruction) ⊎ OfFields r
+    by None k [] e = inr (inl (cc))
+    by None k (b ∷ s) e = let d : Got.refused UnknownInstruction ≡ Got.refused r = rw k at e in inl (cc)
+    by (Some (n, reply)) k s e = inr (fields-refuse reply r s (sym (reading-known kind n reply k s) ∙ e))

@@ -1,4 +1,5 @@
 -- Responses: reading takes exactly what is published.
+use Rattle.std.specs.Prelude.{Option, Some, None}
 use mathlib.Core.Path.{◌≡◌, refl, sym, ap, subst, ◌∙◌}
 use mathlib.Core.List.{List, [], ◌∷◌, ◌++◌, append_assoc}
 use mathlib.Core.Bool.{Bool, true, false}
@@ -11,8 +12,6 @@ use Rattle.wire.specs.Fields.{Got, Field, go_on, give, required}
 use Rattle.wire.specs.declared.Refusal.TheVariants.{ValueNotAllowed, MoreBytes, UnknownInstruction}
 use Rattle.wire.proofs.Fields.{split, held}
 use Rattle.basex_string.specs.Scan.{scan}
-use Rattle.basex.specs.declared.Found.{Found}
-use Rattle.basex.specs.declared.Found.TheVariants.{Known, Unknown}
 use Rattle.basex.specs.declared.Reply.{Reply}
 use Rattle.basex.specs.declared.Reply.TheVariants.{Command, Create, Query, Results, Full}
 use Rattle.basex.specs.Kinds.{find_of, ahead, behind, listed, is_full, status_allowed}
@@ -105,7 +104,7 @@ none-refused Query = refl
 none-refused Results = refl
 none-refused Full = refl
 
-pub reading-known : (kind n : ℕ) (reply : Reply) → find_of kind ≡ Known n reply → (s : List ℕ) → reading kind s ≡ fields_of reply s
+pub reading-known : (kind n : ℕ) (reply : Reply) → find_of kind ≡ Some (n, reply) → (s : List ℕ) → reading kind s ≡ fields_of reply s
 unfolding reading
 reading-known kind n reply k [] = sym (none-refused reply)
 reading-known kind n reply k (b ∷ s) = rw k refl
@@ -115,13 +114,13 @@ pub response_exact : (kind : ℕ) (s : List ℕ) (r : Response) (rest : List ℕ
 unfolding reading
 response_exact kind s r rest = (forth, back)
   where
-    found : (f : Found) → find_of kind ≡ f → reading kind s ≡ Got.got r rest → Stands kind r s rest
-    found Unknown k e = none s e
+    found : (f : Option (ℕ × Reply)) → find_of kind ≡ f → reading kind s ≡ Got.got r rest → Stands kind r s rest
+    found None k e = none s e
       where
         none : (s : List ℕ) → reading kind s ≡ Got.got r rest → Stands kind r s rest
         none [] e = let z : ◌≡◌ {A = ℕ} 0 1 = cc in absurd (omega arith)
         none (b ∷ s) e = let d : Got.refused UnknownInstruction ≡ Got.got r rest = rw k at e in let z : ◌≡◌ {A = ℕ} 0 1 = cc in absurd (omega arith)
-    found (Known n reply) k e =
+    found (Some (n, reply)) k e =
         let x = fields_exact reply s r rest (sym (reading-known kind n reply k s) ∙ e) in
         record { strings = n; reply = reply; known = k; published = x.0; encoded = x.1 }
 

@@ -1,4 +1,8 @@
 -- What is told of a request and of a response, and that an output as long as the input has room for their texts.
+use Rattle.basex_response.specs.Reading.{read_as_response, fields_of, all_texts, judgement, answered}
+use Rattle.std.specs.Prelude.{Result, Ok, Err}
+use Rattle.wire.specs.declared.Refusal.{Refusal}
+use Rattle.basex_request.specs.Reading.{read_as_request, kind_of, texts_of, requested}
 use mathlib.Core.Path.{◌≡◌, refl, sym, ap, ap₂, subst, ◌∙◌}
 use mathlib.Core.List.{List, [], ◌∷◌, ◌++◌, append_assoc, append-nil, flatten}
 use mathlib.Core.Logic.{◌↔◌, ◌⊎◌, inl, inr}
@@ -18,21 +22,16 @@ use Rattle.basex.specs.Request.{Request}
 use Rattle.basex.specs.Response.{Response, encode}
 use Rattle.basex.specs.Texts.{length_at}
 use Rattle.basex_request.specs.declared.Requested.{Requested}
-use Rattle.basex_request.specs.declared.Requested.TheVariants as requested-as
 use Rattle.basex_request.specs.Reading as requests
-use Rattle.basex_request.specs.Reading.{kind_of, texts_of, requested}
 use Rattle.basex_request.proofs.Laws as request-laws
 use Rattle.basex_request.proofs.Laws.{InReading}
 use Rattle.basex_response.specs.declared.Replied.{Replied}
-use Rattle.basex_response.specs.declared.Replied.TheVariants as replied
 use Rattle.basex_response.specs.Items.{item_texts}
 use Rattle.basex_response.specs.Reading as responses
-use Rattle.basex_response.specs.Reading.{fields_of, all_texts, judgement, answered}
 use Rattle.basex_response.proofs.Fields.{ahead-few, behind-few}
-use Rattle.basex_response.proofs.Sizes.{texts_shorter}
+use Rattle.basex_response.proofs.Sizes.{texts_shorter, flatten-append}
 use Rattle.basex_response.proofs.Whole.{told}
 use Rattle.basex_laws.specs.Exactly.{Reads, TooLong, Unread, RequestTold, parts_of, ResponseTold}
-use Rattle.basex_response.proofs.Sizes.{flatten-append}
 use Rattle.basex_laws.proofs.Listed.{same, OfFields}
 use Rattle.basex_laws.proofs.Refusals.{reading_refuses}
 use Rattle.basex_laws.proofs.Responses.{response_exact, reading-known}
@@ -41,26 +40,26 @@ use Rattle.basex_laws.proofs.Chosen.{exactly}
 use Rattle.basex_laws.proofs.Told.{behind-there, answer, tells, unread_back, reads_back, ten, cut-there}
 
 module _ (s out : List ℕ) where
-  abbrev request_tell : Request → ℕ → Requested
-  request_tell q n = requested-as.Read (kind_of q) (length_at (texts_of q) 0) (length_at (texts_of q) 1) (length_at (texts_of q) 2) (length_at (texts_of q) 3) n
+  abbrev request_tell : Request → ℕ → Result Requested Refusal
+  request_tell q n = read_as_request (kind_of q) (length_at (texts_of q) 0) (length_at (texts_of q) 1) (length_at (texts_of q) 2) (length_at (texts_of q) 3) n
 
   abbrev request_need : Request → ℕ
   request_need q = length (flatten (texts_of q))
 
-  requested-is : (y : Got Request) → requested (length s) (length out) y ≡ answer requested-as.Refused request_tell request_need (length out) s y
+  requested-is : (y : Got Request) → requested (length s) (length out) y ≡ answer Err request_tell request_need (length out) s y
   requested-is (Got.refused r) = refl
   requested-is (Got.got q rest) = refl
 
   request-ends : (q : Request) (rest : List ℕ) → requests.reading s ≡ Got.got q rest → drop (length s - length rest) s ≡ rest
   request-ends q rest e = behind-there s (request.encode q) rest ((request-laws.reading_exact s q rest).0 e).1
 
-  abbrev Requests : Requested → Type 0
-  Requests (requested-as.Read kind a b c d n) = RequestTold s out kind a b c d n
-  Requests (requested-as.Refused r) = Unread (requests.reading s) (λ q. length (flatten (texts_of q))) (length out) r
+  abbrev Requests : Result Requested Refusal → Type 0
+  Requests (Ok m) = RequestTold s out m.kind m.first m.second m.third m.fourth m.read
+  Requests (Err r) = Unread (requests.reading s) (λ q. length (flatten (texts_of q))) (length out) r
 
   request-tells : Requests (requested (length s) (length out) (requests.reading s))
   request-tells = subst Requests (sym (requested-is (requests.reading s)))
-      (tells requested-as.Refused request_tell request_need (length out) s Requests (requests.reading s) request-ends (λ r u. u) read)
+      (tells Err request_tell request_need (length out) s Requests (requests.reading s) request-ends (λ r u. u) read)
     where
       read : (q : Request) (n : ℕ) → Reads (requests.reading s) s n q → length (flatten (texts_of q)) ≤ length out → Requests (request_tell q n)
       read q n r h = record {
@@ -72,22 +71,22 @@ module _ (s out : List ℕ) where
         texts = rw r.read (cut-there (texts_of q) (flatten (texts_of q)) out refl h);
       }
 
-  request_back : (y : Requested) → Requests y → requested (length s) (length out) (requests.reading s) ≡ y
-  request_back (requested-as.Refused r) u = requested-is (requests.reading s) ∙ unread_back requested-as.Refused request_tell request_need (length out) s (requests.reading s) r u
-  request_back (requested-as.Read kind a b c d n) t =
+  request_back : (y : Result Requested Refusal) → Requests y → requested (length s) (length out) (requests.reading s) ≡ y
+  request_back (Err r) u = requested-is (requests.reading s) ∙ unread_back Err request_tell request_need (length out) s (requests.reading s) r u
+  request_back (Ok m) t =
       let l = t.texts.lengths in
       let k = t.named in
-      let e : request_tell t.request n ≡ requested-as.Read kind a b c d n = cc in
-      requested-is (requests.reading s) ∙ reads_back requested-as.Refused request_tell request_need (length out) s (requests.reading s) n t.request t.reads t.fits ∙ e
+      let e : request_tell t.request m.read ≡ read_as_request m.kind m.first m.second m.third m.fourth m.read = cc in
+      requested-is (requests.reading s) ∙ reads_back Err request_tell request_need (length out) s (requests.reading s) m.read t.request t.reads t.fits ∙ e
 
-  pub request-told : (y : Requested) → (requested (length s) (length out) (requests.reading s) ≡ y) ↔ Requests y
+  pub request-told : (y : Result Requested Refusal) → (requested (length s) (length out) (requests.reading s) ≡ y) ↔ Requests y
   request-told y = exactly Requests (requested (length s) (length out) (requests.reading s)) request-tells y (request_back y)
 
-  pub request_no_room : (requested (length s) (length out) (requests.reading s) ≡ requested-as.Refused NoRoom) ↔ TooLong (requests.reading s) (λ q. length (flatten (texts_of q))) (length out)
+  pub request_no_room : (requested (length s) (length out) (requests.reading s) ≡ Err NoRoom) ↔ TooLong (requests.reading s) (λ q. length (flatten (texts_of q))) (length out)
   request_no_room = (
-    λ e. ten (requests.reading s) request_need (length out) never NoRoom refl ((request-told (requested-as.Refused NoRoom)).0 e),
+    λ e. ten (requests.reading s) request_need (length out) never NoRoom refl ((request-told (Err NoRoom)).0 e),
     λ t. (request-told
-        (requested-as.Refused NoRoom)).1 (Unread.no_room t),
+        (Err NoRoom)).1 (Unread.no_room t),
   )
     where
       neither : InReading NoRoom → ⊥
@@ -125,13 +124,13 @@ parts-flat r h k =
     ∙ append_assoc first second (items ++ (get_or r.error 0 [] ++ []))
 
 module _ (kind : ℕ) (s out : List ℕ) where
-  abbrev response_tell : Response → ℕ → Replied
-  response_tell p n = replied.Read (length_at p.texts 0) (length_at p.texts 1) (length p.items) (length (flatten (item_texts p.items))) p.status (length_at p.error 0) n
+  abbrev response_tell : Response → ℕ → Result Replied Refusal
+  response_tell p n = read_as_response (length_at p.texts 0) (length_at p.texts 1) (length p.items) (length (flatten (item_texts p.items))) p.status (length_at p.error 0) n
 
   abbrev response_need : Response → ℕ
   response_need p = length (flatten (all_texts p))
 
-  answered-is : (y : Got Response) → answered (length s) (length out) y ≡ answer replied.Refused response_tell response_need (length out) s y
+  answered-is : (y : Got Response) → answered (length s) (length out) y ≡ answer Err response_tell response_need (length out) s y
   answered-is (Got.refused r) = refl
   answered-is (Got.got q rest) = refl
 
@@ -148,13 +147,13 @@ module _ (kind : ℕ) (s out : List ℕ) where
       let v = behind-few h.reply p.status in
       parts-flat p (omega arith) (omega arith)
 
-  abbrev Responses : Replied → Type 0
-  Responses (replied.Read first second items listed status error n) = ResponseTold kind s out first second items listed status error n
-  Responses (replied.Refused r) = Unread (responses.reading kind s) (λ p. length (flatten (all_texts p))) (length out) r
+  abbrev Responses : Result Replied Refusal → Type 0
+  Responses (Ok m) = ResponseTold kind s out m.first m.second m.items m.listed m.status m.error m.read
+  Responses (Err r) = Unread (responses.reading kind s) (λ p. length (flatten (all_texts p))) (length out) r
 
   response-tells : Responses (answered (length s) (length out) (responses.reading kind s))
   response-tells = subst Responses (sym (answered-is (responses.reading kind s)))
-      (tells replied.Refused response_tell response_need (length out) s Responses (responses.reading kind s) response-ends (λ r u. u) read)
+      (tells Err response_tell response_need (length out) s Responses (responses.reading kind s) response-ends (λ r u. u) read)
     where
       read : (p : Response) (n : ℕ) → Reads (responses.reading kind s) s n p → length (flatten (all_texts p)) ≤ length out → Responses (response_tell p n)
       read p n r h = record {
@@ -167,23 +166,23 @@ module _ (kind : ℕ) (s out : List ℕ) where
         texts = rw r.read (cut-there (parts_of p) (flatten (all_texts p)) out (response-flat p (drop n s) r.read) h);
       }
 
-  response_back : (y : Replied) → Responses y → answered (length s) (length out) (responses.reading kind s) ≡ y
-  response_back (replied.Refused r) u = answered-is (responses.reading kind s) ∙ unread_back replied.Refused response_tell response_need (length out) s (responses.reading kind s) r u
-  response_back (replied.Read first second items listed status error n) t =
+  response_back : (y : Result Replied Refusal) → Responses y → answered (length s) (length out) (responses.reading kind s) ≡ y
+  response_back (Err r) u = answered-is (responses.reading kind s) ∙ unread_back Err response_tell response_need (length out) s (responses.reading kind s) r u
+  response_back (Ok m) t =
       let l = t.texts.lengths in
       let c = t.count in
       let k = t.state in
-      let e : response_tell t.response n ≡ replied.Read first second items listed status error n = cc in
-      answered-is (responses.reading kind s) ∙ reads_back replied.Refused response_tell response_need (length out) s (responses.reading kind s) n t.response t.reads t.fits ∙ e
+      let e : response_tell t.response m.read ≡ read_as_response m.first m.second m.items m.listed m.status m.error m.read = cc in
+      answered-is (responses.reading kind s) ∙ reads_back Err response_tell response_need (length out) s (responses.reading kind s) m.read t.response t.reads t.fits ∙ e
 
-  pub response-told : (y : Replied) → (answered (length s) (length out) (responses.reading kind s) ≡ y) ↔ Responses y
+  pub response-told : (y : Result Replied Refusal) → (answered (length s) (length out) (responses.reading kind s) ≡ y) ↔ Responses y
   response-told y = exactly Responses (answered (length s) (length out) (responses.reading kind s)) response-tells y (response_back y)
 
-  pub response_no_room : (answered (length s) (length out) (responses.reading kind s) ≡ replied.Refused NoRoom) ↔ TooLong (responses.reading kind s) (λ p. length (flatten (all_texts p))) (length out)
+  pub response_no_room : (answered (length s) (length out) (responses.reading kind s) ≡ Err NoRoom) ↔ TooLong (responses.reading kind s) (λ p. length (flatten (all_texts p))) (length out)
   response_no_room = (
-    λ e. ten (responses.reading kind s) response_need (length out) never NoRoom refl ((response-told (replied.Refused NoRoom)).0 e),
+    λ e. ten (responses.reading kind s) response_need (length out) never NoRoom refl ((response-told (Err NoRoom)).0 e),
     λ t. (response-told
-        (replied.Refused NoRoom)).1 (Unread.no_room t),
+        (Err NoRoom)).1 (Unread.no_room t),
   )
     where
       neither : (NoRoom ≡ UnknownInstruction) ⊎ OfFields NoRoom → ⊥
@@ -213,8 +212,7 @@ response_short kind s r rest e =
     let h = (response_exact kind s r rest).0 e in
     let f : fields_of h.reply s ≡ Got.got r rest = sym (reading-known kind h.strings h.reply h.known s) ∙ e in
     let j : judgement (length s) (fields_of h.reply s) ≡ judgement (length s) (Got.got r rest) = ap (judgement (length s)) f in
-    let t = told h.reply s (length_at r.texts 0) (length_at r.texts 1) (length r.items) (length (flatten (item_texts r.items))) r.status (length_at r.error 0)
-    (length s - length rest) j in
+    let t = told h.reply s _ j in
     let g = (same (sym t.got ∙ f)).0 in
     let k : length (flatten (all_texts t.response)) ≡ length (flatten (all_texts r)) = ap (λ (p : Response). length (flatten (all_texts p))) g in
     let a = t.all in

@@ -1,4 +1,5 @@
 -- A response that is written item by item, and then its end, is its encoding.
+use Rattle.std.specs.Prelude.{Some, Ok}
 use mathlib.Core.Path.{◌≡◌, refl, sym, ap, ap₂, subst, ◌∙◌}
 use mathlib.Core.List.{List, [], ◌∷◌, ◌++◌, append_assoc, flatten, flat_map}
 use mathlib.Core.Bool.{Bool, true, false}
@@ -10,8 +11,6 @@ use Rattle.wire.specs.Bytes.{if, splice}
 use Rattle.wire.proofs.Call.{room-there}
 use Rattle.wire.proofs.Splices.{length-splice, splice-splice, splice-none}
 use Rattle.wire.specs.Call.{in_room}
-use Rattle.wire.specs.declared.Counted.TheVariants.{Count}
-use Rattle.basex.specs.declared.Found.TheVariants.{Known}
 use Rattle.basex.specs.declared.Reply.{Reply}
 use Rattle.basex.specs.declared.Reply.TheVariants.{Command, Create, Query, Results, Full}
 use Rattle.basex.specs.Kinds.{find_of, has_uri, listed, is_full, ahead, behind}
@@ -31,10 +30,10 @@ uri-fits full i = by (has_uri full i.id) refl
     by true p = rw p refl
     by false p = rw p refl
 
-module _ (kind n : ℕ) (reply : Reply) (known : find_of kind ≡ Known n reply) where
+module _ (kind n : ℕ) (reply : Reply) (known : find_of kind ≡ Some (n, reply)) where
   -- an item that is allowed is written where it fits
   item-fits : (i : Item) (room at : ℕ) → listed reply ≡ true → ItemAllowed (is_full reply) i → at + length (item_bytes i) ≤ room
-      → item_written room at kind i.id (uri_of (is_full reply) i) (text_of (is_full reply) i) ≡ Count (length (item_bytes i))
+      → item_written room at kind i.id (uri_of (is_full reply) i) (text_of (is_full reply) i) ≡ Ok (length (item_bytes i))
   unfolding item_written
   item-fits i room at l a h = rw known (rw (l, a.0) (rw (uri-fits (is_full reply) i)
       (ap (λ (j : Item). in_room room at (length (item_bytes j))) (made (is_full reply) i a.1).is ∙ room-there room at (length (item_bytes i)) h)))
@@ -100,7 +99,7 @@ items-ahead reply r p = by reply r.texts r.items p.first p.list
     by Results ts is l a = some Results ts is refl l
     by Full ts is l a = some Full ts is refl l
 
-module _ (kind n : ℕ) (reply : Reply) (known : find_of kind ≡ Known n reply) (r : Response) (p : Published reply r) where
+module _ (kind n : ℕ) (reply : Reply) (known : find_of kind ≡ Some (n, reply)) (r : Response) (p : Published reply r) where
   abbrev first : List ℕ
   first = get_or r.texts 0 []
 
@@ -122,7 +121,7 @@ module _ (kind n : ℕ) (reply : Reply) (known : find_of kind ≡ Known n reply)
   end_is : end_of reply first second r.status error ≡ bare r
   end_is = ap₂ (λ (ts es : List (List ℕ)). record { texts = ts; items = []; status = r.status; error = es }) texts-given.0 error-given.0
 
-  end_fits : (room at : ℕ) → at + length (encode reply (bare r)) ≤ room → end_written room at kind first second r.status error ≡ Count (length (encode reply (bare r)))
+  end_fits : (room at : ℕ) → at + length (encode reply (bare r)) ≤ room → end_written room at kind first second r.status error ≡ Ok (length (encode reply (bare r)))
   unfolding end_written
   end_fits room at h = rw known (rw p.ended (rw texts-given.1
       (rw error-given.1 (ap (λ (q : Response). in_room room at (length (encode reply q))) end_is ∙ room-there room at (length (encode reply (bare r))) h))))

@@ -1,21 +1,22 @@
 -- Responses over several calls: the items of one that was read handed out one by one, and one written item by item.
+use Rattle.std.specs.Prelude.{Option, Some, None, Result, Ok, Err, ℕ, zero, suc, ◌+◌, ◌-◌, length, take, drop, get_or}
+use Rattle.wire.specs.declared.Refusal.{Refusal}
 use mathlib.Core.{Bool.Bool, Bool.false, List.List, List.[], List.◌∷◌}
-use Rattle.std.specs.Prelude.{ℕ, zero, suc, ◌+◌, ◌-◌, length, take, drop, get_or}
-use Rattle.wire.specs.{Bytes.if, Call.output_after, declared.Counted.Counted}
-use Rattle.basex.specs.{declared.Found.Found, Kinds.find_of, Kinds.listed, Kinds.has_uri, Response.Item, Response.Response, Response.item_bytes}
+use Rattle.wire.specs.{Bytes.if, Call.output_after}
+use Rattle.basex.specs.{declared.Reply.Reply, Kinds.find_of, Kinds.listed, Kinds.has_uri, Response.Item, Response.Response, Response.item_bytes}
 use Rattle.basex_response.specs.{declared.ItemAt.ItemAt, Items.next, Items.item_at}
 use Rattle.basex_response.specs.Writing.{item_of, item_written, full_of, end_written, end_bytes}
 
 -- whether the response to a request that starts with the byte has items
-abbrev pub listed_of : Found → Bool
-listed_of Found.Unknown = false
-listed_of (Found.Known n reply) = listed reply
+abbrev pub listed_of : Option (ℕ × Reply) → Bool
+listed_of None = false
+listed_of (Some (n, reply)) = listed reply
 
 -- the item that was told, its texts taken from the output, and what comes then
-abbrev pub handed_next : Bool → List ℕ → ℕ → ItemAt → (ℕ → ℕ → List Item) → List Item
-handed_next full out to (ItemAt.Refused r) more = []
-handed_next full out to (ItemAt.End at) more = []
-handed_next full out to (ItemAt.Item id uri text at) more =
+abbrev pub handed_next : Bool → List ℕ → ℕ → Result ItemAt Refusal → (ℕ → ℕ → List Item) → List Item
+handed_next full out to (Err r) more = []
+handed_next full out to (Ok (ItemAt.End at)) more = []
+handed_next full out to (Ok (ItemAt.Item id uri text at)) more =
     item_of full id (take uri (drop to out)) (take text (drop (to + uri) out)) ∷ more at (to + (uri + text))
 
 -- the items that up to n calls of item_at tell, from `at` on in the bytes s, with their texts from `to` on in the output
@@ -36,16 +37,16 @@ pub record Output : Type 0 where
   pub at : ℕ
 
 -- behind a call that wrote n bytes, or was refused
-abbrev pub further : ℕ → Counted → ℕ
-further at (Counted.Refused r) = at
-further at (Counted.Count n) = at + n
+abbrev pub further : ℕ → Result ℕ Refusal → ℕ
+further at (Err r) = at
+further at (Ok n) = at + n
 
 -- the output when the items have been written one behind the other by calls of write_item
 unfoldable pub wrote : Bool → ℕ → List Item → Output → Output
 wrote full kind [] o = o
 wrote full kind (i ∷ is) o = wrote full kind is (then (item_written (length o.bytes) o.at kind i.id (uri_of full i) (text_of full i)))
   where
-    then : Counted → Output
+    then : Result ℕ Refusal → Output
     then w = record { bytes = output_after w o.bytes o.at (item_bytes (item_of full i.id (uri_of full i) (text_of full i))); at = further o.at w }
 
 -- .. and then the rest of the response by one call of write_end
@@ -61,7 +62,7 @@ responded kind r o = ended (wrote (full_of (find_of kind)) kind r.items o)
     error : List ℕ
     error = get_or r.error 0 []
 
-    then : Output → Counted → Output
+    then : Output → Result ℕ Refusal → Output
     then p w = record { bytes = output_after w p.bytes p.at (end_bytes (find_of kind) first second r.status error); at = further p.at w }
 
     ended : Output → Output

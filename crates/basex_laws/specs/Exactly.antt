@@ -1,14 +1,17 @@
 -- Document 01, "When writing or cutting: 2, 8, 11, 14, 10", and "Strings are decoded into lent output, with 10 last": exactly what is written and what
 -- a call of reading tells, and which refusal is due else.
+use Rattle.basex_response.specs.Reading.{read_as_response}
+use Rattle.basex_request.specs.Reading.{read_as_request}
+use Rattle.basex_string.specs.Answers.{string_there}
+use Rattle.std.specs.Prelude.{Some, None, Ok, Err, ℕ, ◌+◌, ◌-◌, ◌≤◌, ◌<◌, length, take, drop, get_or}
 use mathlib.Core.{Bool.Bool, Bool.true, Bool.false, List.List, List.[], List.◌∷◌, List.◌++◌, List.flatten, List.map, Logic.◌↔◌, Path.◌≡◌}
-use Rattle.std.specs.Prelude.{ℕ, ◌+◌, ◌-◌, ◌≤◌, ◌<◌, length, take, drop, get_or}
-use Rattle.wire.specs.{Bytes.splice, Call.in_room, Call.output_after, Fields.Got, declared.Refusal.Refusal, declared.Counted.Counted}
+use Rattle.wire.specs.{Bytes.splice, Call.in_room, Call.output_after, Fields.Got, declared.Refusal.Refusal}
 use Rattle.basex_string.specs.{declared.StringAt.StringAt, Answers.output_read, Strings.string}
 use Rattle.basex_string.specs.Answers as decoding
 use Rattle.basex_string.specs.Scan as strings
-use Rattle.basex.specs.{declared.Found.TheVariants.Known, declared.Found.TheVariants.Unknown, declared.Reply.Reply}
-use Rattle.basex.specs.Kinds.{find_of, row_byte, ahead, behind, listed, is_full, id_allowed, has_uri}
+use Rattle.basex.specs.{declared.Reply.Reply}
 use Rattle.basex.specs.{Request.Request, Request.opens, Response.Item, Response.Response, Response.item_bytes, Response.ItemAllowed, Texts.length_at}
+use Rattle.basex.specs.Kinds.{find_of, row_byte, ahead, behind, listed, is_full, id_allowed, has_uri}
 use Rattle.basex.specs.Request as request
 use Rattle.basex.specs.Response as response
 use Rattle.basex_request.specs.{declared.Requested.Requested, Calls.padded, Calls.cut, Reading.kind_of, Reading.texts_of}
@@ -39,9 +42,9 @@ pub record Means (kind : ℕ) (ts : List (List ℕ)) (q : Request) : Type 0 wher
 -- the refusal that is due for a request
 pub data Unwritten (room kind : ℕ) (ts : List (List ℕ)) : Refusal → Type 0 where
   -- "Other first bytes: 2."
-  unknown : find_of kind ≡ Unknown → Unwritten room kind ts Refusal.UnknownInstruction
+  unknown : find_of kind ≡ None → Unwritten room kind ts Refusal.UnknownInstruction
   -- 8: a text that the kind does not take
-  spare : (n : ℕ) (reply : Reply) → find_of kind ≡ Known n reply → Spare n ts → Unwritten room kind ts Refusal.ValueNotAllowed
+  spare : (n : ℕ) (reply : Reply) → find_of kind ≡ Some (n, reply) → Spare n ts → Unwritten room kind ts Refusal.ValueNotAllowed
   -- "A command that is empty or starts otherwise: 11."
   command : (t : List ℕ) → Means kind ts (Request.command t) → opens t ≡ false → Unwritten room kind ts Refusal.NoEncoding
   -- 10: "lent output shorter than the bytes to be put there"
@@ -51,7 +54,7 @@ pub data Unwritten (room kind : ℕ) (ts : List (List ℕ)) : Refusal → Type 0
 pub record MeansItem (kind id : ℕ) (uri text : List ℕ) (i : Item) : Type 0 where
   pub strings : ℕ
   pub reply : Reply
-  pub known : find_of kind ≡ Known strings reply
+  pub known : find_of kind ≡ Some (strings, reply)
   pub list : listed reply ≡ true
   pub allowed : ItemAllowed (is_full reply) i
   pub named : i.id ≡ id
@@ -61,13 +64,13 @@ pub record MeansItem (kind id : ℕ) (uri text : List ℕ) (i : Item) : Type 0 w
 -- the refusal that is due for an item
 pub data ItemUnwritten (room at kind id : ℕ) (uri text : List ℕ) : Refusal → Type 0 where
   -- 2: "unknown instruction, or BaseX first byte"
-  unknown : find_of kind ≡ Unknown → ItemUnwritten room at kind id uri text Refusal.UnknownInstruction
+  unknown : find_of kind ≡ None → ItemUnwritten room at kind id uri text Refusal.UnknownInstruction
   -- 8: a kind without items ("RESULTS, FULL: items")
-  unlisted : (n : ℕ) (reply : Reply) → find_of kind ≡ Known n reply → listed reply ≡ false → ItemUnwritten room at kind id uri text Refusal.ValueNotAllowed
+  unlisted : (n : ℕ) (reply : Reply) → find_of kind ≡ Some (n, reply) → listed reply ≡ false → ItemUnwritten room at kind id uri text Refusal.ValueNotAllowed
   -- "a type id (7-15 or 32-83, else 8)"
-  bad_id : (n : ℕ) (reply : Reply) → find_of kind ≡ Known n reply → id_allowed id ≡ false → ItemUnwritten room at kind id uri text Refusal.ValueNotAllowed
+  bad_id : (n : ℕ) (reply : Reply) → find_of kind ≡ Some (n, reply) → id_allowed id ≡ false → ItemUnwritten room at kind id uri text Refusal.ValueNotAllowed
   -- 8: a URI where the item has none ("in FULL a URI string after 12, 14 and 82")
-  spare : (n : ℕ) (reply : Reply) → find_of kind ≡ Known n reply → has_uri (is_full reply) id ≡ false → 0 < length uri
+  spare : (n : ℕ) (reply : Reply) → find_of kind ≡ Some (n, reply) → has_uri (is_full reply) id ≡ false → 0 < length uri
       → ItemUnwritten room at kind id uri text Refusal.ValueNotAllowed
   -- 10: "lent output shorter than the bytes to be put there"
   no_room : (i : Item) → MeansItem kind id uri text i → room < at + length (item_bytes i) → ItemUnwritten room at kind id uri text Refusal.NoRoom
@@ -75,7 +78,7 @@ pub data ItemUnwritten (room at kind id : ℕ) (uri text : List ℕ) : Refusal �
 -- a kind, two texts, a status and an error stand for the response r without items: all of one that has no list, and what stands behind the items of another
 pub record MeansEnd (kind : ℕ) (first second : List ℕ) (status : ℕ) (error : List ℕ) (reply : Reply) (r : Response) : Type 0 where
   pub strings : ℕ
-  pub known : find_of kind ≡ Known strings reply
+  pub known : find_of kind ≡ Some (strings, reply)
   pub published : response.Published reply r
   pub bare : r.items ≡ []
   pub state : r.status ≡ status
@@ -86,14 +89,15 @@ pub record MeansEnd (kind : ℕ) (first second : List ℕ) (status : ℕ) (error
 -- the refusal that is due for the end of a response
 pub data EndUnwritten (room at kind : ℕ) (first second : List ℕ) (status : ℕ) (error : List ℕ) : Refusal → Type 0 where
   -- 2: "unknown instruction, or BaseX first byte"
-  unknown : find_of kind ≡ Unknown → EndUnwritten room at kind first second status error Refusal.UnknownInstruction
+  unknown : find_of kind ≡ None → EndUnwritten room at kind first second status error Refusal.UnknownInstruction
   -- "Status above 01: 8."
-  bad_status : (n : ℕ) (reply : Reply) → find_of kind ≡ Known n reply → 1 < status → EndUnwritten room at kind first second status error Refusal.ValueNotAllowed
+  bad_status : (n : ℕ) (reply : Reply) → find_of kind ≡ Some (n, reply) → 1 < status
+      → EndUnwritten room at kind first second status error Refusal.ValueNotAllowed
   -- 8: a text ahead of the status that the response does not take
-  spare : (n : ℕ) (reply : Reply) → find_of kind ≡ Known n reply → Spare (ahead reply) (first ∷ second ∷ [])
+  spare : (n : ℕ) (reply : Reply) → find_of kind ≡ Some (n, reply) → Spare (ahead reply) (first ∷ second ∷ [])
       → EndUnwritten room at kind first second status error Refusal.ValueNotAllowed
   -- 8: an error where there is none behind the status
-  spare_error : (n : ℕ) (reply : Reply) → find_of kind ≡ Known n reply → Spare (behind reply status) (error ∷ [])
+  spare_error : (n : ℕ) (reply : Reply) → find_of kind ≡ Some (n, reply) → Spare (behind reply status) (error ∷ [])
       → EndUnwritten room at kind first second status error Refusal.ValueNotAllowed
   -- 10: "lent output shorter than the bytes to be put there"
   no_room : (reply : Reply) (r : Response) → MeansEnd kind first second status error reply r → room < at + length (response.encode reply r)
@@ -103,29 +107,29 @@ pub data EndUnwritten (room at kind : ℕ) (first second : List ℕ) (status : �
 pub record WrittenExactly : Type 0 where
   -- every text is a string
   pub string_written : (room at : ℕ) (text : List ℕ) (n : ℕ)
-      → (in_room room at (length (string text)) ≡ Counted.Count n) ↔ Fits room at (string text) n
+      → (in_room room at (length (string text)) ≡ Ok n) ↔ Fits room at (string text) n
   pub string_unwritten : (room at : ℕ) (text : List ℕ) (r : Refusal)
-      → (in_room room at (length (string text)) ≡ Counted.Refused r) ↔ ((r ≡ Refusal.NoRoom) × (room < at + length (string text)))
+      → (in_room room at (length (string text)) ≡ Err r) ↔ ((r ≡ Refusal.NoRoom) × (room < at + length (string text)))
   pub request-written : (room kind : ℕ) (a b c d : List ℕ) (n : ℕ)
-      → (requesting.written room kind (a ∷ b ∷ c ∷ d ∷ []) ≡ Counted.Count n)
+      → (requesting.written room kind (a ∷ b ∷ c ∷ d ∷ []) ≡ Ok n)
       ↔ ((q : Request) × Means kind (a ∷ b ∷ c ∷ d ∷ []) q × request.Published q × Fits room 0 (request.encode q) n)
   pub request_unwritten : (room kind : ℕ) (a b c d : List ℕ) (r : Refusal)
-      → (requesting.written room kind (a ∷ b ∷ c ∷ d ∷ []) ≡ Counted.Refused r) ↔ Unwritten room kind (a ∷ b ∷ c ∷ d ∷ []) r
+      → (requesting.written room kind (a ∷ b ∷ c ∷ d ∷ []) ≡ Err r) ↔ Unwritten room kind (a ∷ b ∷ c ∷ d ∷ []) r
   pub request_there : (out : List ℕ) (kind : ℕ) (ts : List (List ℕ)) (q : Request) → Means kind ts q → request.Published q
       → length (request.encode q) ≤ length out
       → output_after (requesting.written (length out) kind ts) out 0 (requesting.bytes_of kind ts) ≡ splice out 0 (request.encode q)
   pub item-written : (room at kind id : ℕ) (uri text : List ℕ) (n : ℕ)
-      → (item_written room at kind id uri text ≡ Counted.Count n) ↔ ((i : Item) × MeansItem kind id uri text i × Fits room at (item_bytes i) n)
+      → (item_written room at kind id uri text ≡ Ok n) ↔ ((i : Item) × MeansItem kind id uri text i × Fits room at (item_bytes i) n)
   pub item_unwritten : (room at kind id : ℕ) (uri text : List ℕ) (r : Refusal)
-      → (item_written room at kind id uri text ≡ Counted.Refused r) ↔ ItemUnwritten room at kind id uri text r
+      → (item_written room at kind id uri text ≡ Err r) ↔ ItemUnwritten room at kind id uri text r
   pub item_there : (out : List ℕ) (at kind id : ℕ) (uri text : List ℕ) (i : Item) → MeansItem kind id uri text i → at + length (item_bytes i) ≤ length out
       → output_after (item_written (length out) at kind id uri text) out at (item_bytes (item_of (full_of (find_of kind)) id uri text))
       ≡ splice out at (item_bytes i)
   pub end-written : (room at kind : ℕ) (first second : List ℕ) (status : ℕ) (error : List ℕ) (n : ℕ)
-      → (end_written room at kind first second status error ≡ Counted.Count n)
+      → (end_written room at kind first second status error ≡ Ok n)
       ↔ ((reply : Reply) × (r : Response) × MeansEnd kind first second status error reply r × Fits room at (response.encode reply r) n)
   pub end_unwritten : (room at kind : ℕ) (first second : List ℕ) (status : ℕ) (error : List ℕ) (r : Refusal)
-      → (end_written room at kind first second status error ≡ Counted.Refused r) ↔ EndUnwritten room at kind first second status error r
+      → (end_written room at kind first second status error ≡ Err r) ↔ EndUnwritten room at kind first second status error r
   pub end_there : (out : List ℕ) (at kind : ℕ) (first second : List ℕ) (status : ℕ) (error : List ℕ) (reply : Reply) (r : Response)
       → MeansEnd kind first second status error reply r → at + length (response.encode reply r) ≤ length out
       → output_after (end_written (length out) at kind first second status error) out at (end_bytes (find_of kind) first second status error)
@@ -206,41 +210,41 @@ pub record ItemTold (full : Bool) (s : List ℕ) (at id uri text next : ℕ) : T
 -- a call of reading tells what is there, and else the refusal that is due
 pub record ToldExactly : Type 0 where
   pub string_located : (b : List ℕ) (at len next : ℕ)
-      → (decoding.located (length b) (strings.reading (drop at b)) ≡ StringAt.At len next) ↔ Located b at len next
+      → (decoding.located (length b) (strings.reading (drop at b)) ≡ string_there len next) ↔ Located b at len next
   pub string_unlocated : (b : List ℕ) (at : ℕ) (r : Refusal)
-      → (decoding.located (length b) (strings.reading (drop at b)) ≡ StringAt.Refused r) ↔ (strings.reading (drop at b) ≡ Got.refused r)
+      → (decoding.located (length b) (strings.reading (drop at b)) ≡ Err r) ↔ (strings.reading (drop at b) ≡ Got.refused r)
   pub string_decoded : (b : List ℕ) (at : ℕ) (out : List ℕ) (to len next : ℕ)
-      → (decoding.decoded (length b) (length out) to (strings.reading (drop at b)) ≡ StringAt.At len next) ↔ Decoded b at out to len next
+      → (decoding.decoded (length b) (length out) to (strings.reading (drop at b)) ≡ string_there len next) ↔ Decoded b at out to len next
   pub string_undecoded : (b : List ℕ) (at : ℕ) (out : List ℕ) (to : ℕ) (r : Refusal)
-      → (decoding.decoded (length b) (length out) to (strings.reading (drop at b)) ≡ StringAt.Refused r)
+      → (decoding.decoded (length b) (length out) to (strings.reading (drop at b)) ≡ Err r)
       ↔ Unread (strings.reading (drop at b)) (λ t. to + length t) (length out) r
   pub string_no_room : (b : List ℕ) (at : ℕ) (out : List ℕ) (to : ℕ)
-      → (decoding.decoded (length b) (length out) to (strings.reading (drop at b)) ≡ StringAt.Refused Refusal.NoRoom)
+      → (decoding.decoded (length b) (length out) to (strings.reading (drop at b)) ≡ Err Refusal.NoRoom)
       ↔ TooLong (strings.reading (drop at b)) (λ t. to + length t) (length out)
   pub request-told : (s out : List ℕ) (kind a b c d n : ℕ)
-      → (requests.requested (length s) (length out) (requests.reading s) ≡ Requested.Read kind a b c d n) ↔ RequestTold s out kind a b c d n
+      → (requests.requested (length s) (length out) (requests.reading s) ≡ read_as_request kind a b c d n) ↔ RequestTold s out kind a b c d n
   pub request_refused : (s out : List ℕ) (r : Refusal)
-      → (requests.requested (length s) (length out) (requests.reading s) ≡ Requested.Refused r)
+      → (requests.requested (length s) (length out) (requests.reading s) ≡ Err r)
       ↔ Unread (requests.reading s) (λ q. length (flatten (texts_of q))) (length out) r
   pub request_no_room : (s out : List ℕ)
-      → (requests.requested (length s) (length out) (requests.reading s) ≡ Requested.Refused Refusal.NoRoom)
+      → (requests.requested (length s) (length out) (requests.reading s) ≡ Err Refusal.NoRoom)
       ↔ TooLong (requests.reading s) (λ q. length (flatten (texts_of q))) (length out)
   pub response-told : (kind : ℕ) (s out : List ℕ) (first second items listed status error n : ℕ)
-      → (responses.answered (length s) (length out) (responses.reading kind s) ≡ Replied.Read first second items listed status error n)
+      → (responses.answered (length s) (length out) (responses.reading kind s) ≡ read_as_response first second items listed status error n)
       ↔ ResponseTold kind s out first second items listed status error n
   pub response_refused : (kind : ℕ) (s out : List ℕ) (r : Refusal)
-      → (responses.answered (length s) (length out) (responses.reading kind s) ≡ Replied.Refused r)
+      → (responses.answered (length s) (length out) (responses.reading kind s) ≡ Err r)
       ↔ Unread (responses.reading kind s) (λ p. length (flatten (all_texts p))) (length out) r
   pub response_no_room : (kind : ℕ) (s out : List ℕ)
-      → (responses.answered (length s) (length out) (responses.reading kind s) ≡ Replied.Refused Refusal.NoRoom)
+      → (responses.answered (length s) (length out) (responses.reading kind s) ≡ Err Refusal.NoRoom)
       ↔ TooLong (responses.reading kind s) (λ p. length (flatten (all_texts p))) (length out)
   pub item-told : (full : Bool) (s : List ℕ) (at id uri text next : ℕ)
-      → (item_at full at (length s - at) (items.next full (drop at s)) ≡ ItemAt.Item id uri text next) ↔ ItemTold full s at id uri text next
+      → (item_at full at (length s - at) (items.next full (drop at s)) ≡ Ok (ItemAt.Item id uri text next)) ↔ ItemTold full s at id uri text next
   -- "items, then 00"
   pub item-end : (full : Bool) (s : List ℕ) (at next : ℕ)
-      → (item_at full at (length s - at) (items.next full (drop at s)) ≡ ItemAt.End next) ↔ ((drop at s ≡ 0 ∷ drop next s) × (next ≡ at + 1))
+      → (item_at full at (length s - at) (items.next full (drop at s)) ≡ Ok (ItemAt.End next)) ↔ ((drop at s ≡ 0 ∷ drop next s) × (next ≡ at + 1))
   pub item_refused : (full : Bool) (s : List ℕ) (at : ℕ) (r : Refusal)
-      → (item_at full at (length s - at) (items.next full (drop at s)) ≡ ItemAt.Refused r) ↔ (items.next full (drop at s) ≡ Got.refused r)
+      → (item_at full at (length s - at) (items.next full (drop at s)) ≡ Err r) ↔ (items.next full (drop at s) ≡ Got.refused r)
 
 -- no text is longer than its bytes: an output as long as the input has room for all of them
 pub record InputSuffices : Type 0 where

@@ -1,12 +1,12 @@
 -- Document 01, "BaseX", "Order: 1 for no byte, 2, then fields left to right: 1, 8, and 13 as soon as the pair is there": which refusal is given, said by
 -- the encodings alone.
+use Rattle.std.specs.Prelude.{Some, None, ℕ, ◌<◌, length}
 use mathlib.Core.{Bool.Bool, Bool.true, Bool.false, List.List, List.[], List.◌∷◌, List.◌++◌, Logic.◌↔◌, Logic.◌≢◌, Path.◌≡◌}
-use Rattle.std.specs.Prelude.{ℕ, ◌<◌, length}
 use Rattle.wire.specs.{Fields.Got, declared.Refusal.Refusal}
 use Rattle.wire.specs.declared.Refusal.TheVariants.{MoreBytes, UnknownInstruction, ValueNotAllowed, BadEscape}
 use Rattle.basex_string.specs.Strings.{special, escaped, string}
 use Rattle.basex_string.specs.Scan as scan
-use Rattle.basex.specs.{declared.Found.TheVariants.Known, declared.Found.TheVariants.Unknown, declared.Reply.Reply}
+use Rattle.basex.specs.{declared.Reply.Reply}
 use Rattle.basex.specs.Kinds.{starts_command, find_of, is_command, ahead, behind, listed, is_full, id_allowed, item_strings, status_allowed}
 use Rattle.basex.specs.Response.{Item, item_bytes, items_bytes, list_bytes, ItemAllowed, ItemsAllowed, ListAllowed}
 use Rattle.basex.specs.Texts.{strings}
@@ -74,7 +74,7 @@ pub record StringMoments : Type 0 where
 -- 13 in a request: "20 to FE starts a COMMAND, one string", other first bytes stand ahead of their strings
 pub data BadRequest (s : List ℕ) : Type 0 where
   command : (b : ℕ) (left : List ℕ) → s ≡ b ∷ left → starts_command b ≡ true → BadPair s → BadRequest s
-  coded : (b n : ℕ) (reply : Reply) (left : List ℕ) → s ≡ b ∷ left → find_of b ≡ Known n reply → is_command reply ≡ false → BadTexts n left → BadRequest s
+  coded : (b n : ℕ) (reply : Reply) (left : List ℕ) → s ≡ b ∷ left → find_of b ≡ Some (n, reply) → is_command reply ≡ false → BadTexts n left → BadRequest s
 
 pub record RequestMoments : Type 0 where
   -- "1 for no byte"
@@ -82,7 +82,7 @@ pub record RequestMoments : Type 0 where
   pub more : (s : List ℕ) → (requests.reading s ≡ Got.refused MoreBytes) ↔ Begun (Encoded request.Published request.encode) s
   pub broken : (s : List ℕ) → Otherwise (requests.reading s) ↔ Broken (Encoded request.Published request.encode) s
   -- "Other first bytes: 2", whatever follows
-  pub unknown : (s : List ℕ) → (requests.reading s ≡ Got.refused UnknownInstruction) ↔ ((b : ℕ) × (rest : List ℕ) × (s ≡ b ∷ rest) × (find_of b ≡ Unknown))
+  pub unknown : (s : List ℕ) → (requests.reading s ≡ Got.refused UnknownInstruction) ↔ ((b : ℕ) × (rest : List ℕ) × (s ≡ b ∷ rest) × (find_of b ≡ None))
   pub pair : (s : List ℕ) → (requests.reading s ≡ Got.refused BadEscape) ↔ BadRequest s
 
 -- "items, then 00": one item, or that 00
@@ -151,11 +151,11 @@ pub record ResponseMoments (kind : ℕ) : Type 0 where
   -- "1 for no byte", whatever the request
   pub none : responses.reading kind [] ≡ Got.refused MoreBytes
   -- 2, for a kind that is none, at the first byte
-  pub unknown : (s : List ℕ) → (responses.reading kind s ≡ Got.refused UnknownInstruction) ↔ ((0 < length s) × (find_of kind ≡ Unknown))
-  pub more : (n : ℕ) (reply : Reply) → find_of kind ≡ Known n reply → (s : List ℕ) → (responses.reading kind s ≡ Got.refused MoreBytes)
+  pub unknown : (s : List ℕ) → (responses.reading kind s ≡ Got.refused UnknownInstruction) ↔ ((0 < length s) × (find_of kind ≡ None))
+  pub more : (n : ℕ) (reply : Reply) → find_of kind ≡ Some (n, reply) → (s : List ℕ) → (responses.reading kind s ≡ Got.refused MoreBytes)
       ↔ Begun (Encoded (response.Published reply) (response.encode reply)) s
-  pub broken : (n : ℕ) (reply : Reply) → find_of kind ≡ Known n reply → (s : List ℕ) → Otherwise (responses.reading kind s)
+  pub broken : (n : ℕ) (reply : Reply) → find_of kind ≡ Some (n, reply) → (s : List ℕ) → Otherwise (responses.reading kind s)
       ↔ Broken (Encoded (response.Published reply) (response.encode reply)) s
-  pub value : (n : ℕ) (reply : Reply) → find_of kind ≡ Known n reply → (s : List ℕ)
+  pub value : (n : ℕ) (reply : Reply) → find_of kind ≡ Some (n, reply) → (s : List ℕ)
       → (responses.reading kind s ≡ Got.refused ValueNotAllowed) ↔ BadValue reply s
-  pub pair : (n : ℕ) (reply : Reply) → find_of kind ≡ Known n reply → (s : List ℕ) → (responses.reading kind s ≡ Got.refused BadEscape) ↔ BadText reply s
+  pub pair : (n : ℕ) (reply : Reply) → find_of kind ≡ Some (n, reply) → (s : List ℕ) → (responses.reading kind s ≡ Got.refused BadEscape) ↔ BadText reply s

@@ -9,33 +9,23 @@
 // `end`, or `damaged` at a cut record, one above 65,536 bytes or a read that fails, where it stops.
 #![tactic(auto)]
 
-ghost use Rattle.std.specs.Prelude.{◌<◌};
+use std::io::{self, Read, Write};
+use text_lines::input::fill;
 
-use std::io::{Read, Stdin};
-use text_lines::input::STDIN;
-use text_lines::print::{decimal, hex, say};
-
-fn wide(b: u8) -> usize
-    ensures { result < 256 }
-{
-    b as usize
+fn line<W: Write>(
+    to: &mut W,
+    number: u64,
+    kind: u8,
+    bytes: &[u8],
+    out: &mut [u8],
+) -> io::Result<()> {
+    write!(to, "{number} {kind:02X}")?;
+    text_basex::show(to, kind, bytes, out)?;
+    to.write_all(b"\n")
 }
 
-fn line(number: u64, kind: u8, bytes: &[u8], out: &mut [u8]) {
-    decimal(number);
-    say(b" ");
-    hex(&[kind]);
-    text_basex::show(kind, bytes, out);
-    say(b"\n");
-}
-
-fn damaged() -> bool {
-    say(b"damaged\n");
-    false
-}
-
-// What stands where a record may start: a whole head, the input's end, or what cannot be read.
-#[derive(Clone, Copy)]
+// What stands where a record may start: a whole head, the input's end, or what cannot be read. Three
+// ways, one more than an Option or a Result has.
 enum Start {
     Head,
     End,
@@ -44,51 +34,51 @@ enum Start {
 
 // The first read tells a failure from the input's end. Where a later one fails, fewer bytes came
 // than were asked for, as where the input ends: the record is cut.
-fn read_head(mut input: Stdin, head: &mut [u8]) -> Start {
-    let Ok(got) = input.read(head) else {
-        return Start::Damaged;
-    };
-    if got == 0 {
-        return Start::End;
-    }
-    if got == head.len() {
-        return Start::Head;
-    }
-    if io::read_full(STDIN, &mut head[got..]) < head.len() - got {
-        return Start::Damaged;
-    }
-    Start::Head
-}
-
-// One record: whether there may be another.
-fn record(input: Stdin, number: u64, space: &mut [u8], out: &mut [u8]) -> bool {
-    let mut head = [0u8; 5];
-    match read_head(input, &mut head) {
-        Start::Head => {}
-        Start::Damaged => return damaged(),
-        Start::End => {
-            say(b"end\n");
-            return false;
+fn read_head<R: Read>(from: &mut R, head: &mut [u8]) -> Start {
+    match from.read(head) {
+        Err(_) => Start::Damaged,
+        Ok(0) => Start::End,
+        Ok(got) => {
+            let left = head.len() - got;
+            if fill(from, &mut head[got..]) < left {
+                Start::Damaged
+            } else {
+                Start::Head
+            }
         }
     }
-    let n = ((wide(head[4]) * 256 + wide(head[3])) * 256 + wide(head[2])) * 256 + wide(head[1]);
-    if space.len() < n {
-        return damaged();
-    }
-    let bytes = &mut space[0..n];
-    if io::read_full(STDIN, bytes) < n {
-        return damaged();
-    }
-    line(number, head[0], bytes, out);
-    true
 }
 
-fn main(rt: HostRuntime) {
-    let mut space = io::large_buffer();
-    // decoded texts are never longer than the bytes they are read from
-    let mut out = io::large_buffer();
-    let mut number: u64 = 1;
-    while number < u64::MAX && record(rt.stdin(), number, &mut space, &mut out) {
-        number += 1;
+// Reads the bytes that a head tells, as far as there is room for them.
+fn read_bytes<'a, R: Read>(from: &mut R, head: [u8; 5], space: &'a mut [u8]) -> Option<&'a [u8]> {
+    let n = u32::from_le_bytes([head[1], head[2], head[3], head[4]]) as usize;
+    if space.len() < n || fill(from, &mut space[..n]) < n {
+        return None;
     }
+    Some(&space[..n])
+}
+
+// Records one after another, up to the first that is none.
+fn answer<R: Read, W: Write>(from: &mut R, to: &mut W) -> io::Result<()> {
+    // An array: no heap, as in the library.
+    let mut space = [0u8; 65536];
+    // decoded texts are never longer than the bytes they are read from
+    let mut out = [0u8; 65536];
+    for number in 1..u64::MAX {
+        let mut head = [0u8; 5];
+        match read_head(from, &mut head) {
+            Start::End => return to.write_all(b"end\n"),
+            Start::Damaged => return to.write_all(b"damaged\n"),
+            Start::Head => {}
+        }
+        let Some(bytes) = read_bytes(from, head, &mut space) else {
+            return to.write_all(b"damaged\n");
+        };
+        line(to, number, head[0], bytes, &mut out)?;
+    }
+    Ok(())
+}
+
+fn main(rt: HostRuntime) -> io::Result<()> {
+    answer(&mut rt.stdin(), &mut io::writer(&rt))
 }

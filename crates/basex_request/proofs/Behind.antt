@@ -1,4 +1,5 @@
 -- A refusal other than 1 stands whatever follows: "13 as soon as the pair is there".
+use Rattle.std.specs.Prelude.{Option, Some, None}
 use mathlib.Core.Path.{◌≡◌, refl, sym, ap, ◌∙◌}
 use mathlib.Core.List.{List, [], ◌∷◌, ◌++◌, append_assoc}
 use mathlib.Core.Bool.{Bool, true, false}
@@ -12,8 +13,7 @@ use Rattle.wire.specs.declared.Refusal.TheVariants.{MoreBytes, BadEscape}
 use Rattle.basex_string.specs.Strings.{string}
 use Rattle.basex_string.specs.Scan as strings
 use Rattle.basex_string.proofs.Laws.{exact, read_written, refuses, bad-behind}
-use Rattle.basex.specs.declared.Found.{Found}
-use Rattle.basex.specs.declared.Found.TheVariants.{Known, Unknown}
+use Rattle.basex.specs.declared.Reply.{Reply}
 use Rattle.basex.specs.Kinds.{find_of, is_command}
 use Rattle.basex.specs.Request.{Request}
 use Rattle.basex.specs.Texts.{texts}
@@ -51,9 +51,9 @@ refused-behind (b ∷ s) more r h e = by (find_of b) e
     bad (inl p) = absurd (h p)
     bad (inr p) = p
 
-    by : (f : Found) → fields_of b f s ≡ Got.refused r → fields_of b f (s ++ more) ≡ Got.refused r
-    by Unknown p = p
-    by (Known n reply) p = which (is_command reply) p
+    by : (f : Option (ℕ × Reply)) → fields_of b f s ≡ Got.refused r → fields_of b f (s ++ more) ≡ Got.refused r
+    by None p = p
+    by (Some (n, reply)) p = which (is_command reply) p
       where
         which : (c : Bool) → if c (go_on (strings.reading (b ∷ s)) (λ t. give (Request.command t))) (go_on (texts n s) (λ ts. give (Request.coded b ts))) ≡ Got.refused r
             → if c (go_on (strings.reading (b ∷ (s ++ more))) (λ t. give (Request.command t))) (go_on (texts n (s ++ more)) (λ ts. give (Request.coded b ts))) ≡ Got.refused r

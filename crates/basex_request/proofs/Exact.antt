@@ -1,4 +1,5 @@
 -- Reading takes exactly the published requests, each by its one encoding.
+use Rattle.std.specs.Prelude.{Option, Some, None}
 use mathlib.Core.Path.{◌≡◌, refl, sym, ap, subst, ◌∙◌}
 use mathlib.Core.List.{List, [], ◌∷◌, ◌++◌}
 use mathlib.Core.Bool.{Bool, true, false}
@@ -12,8 +13,6 @@ use Rattle.wire.specs.Fields.{Got, go_on, give}
 use Rattle.basex_string.specs.Strings.{special, string}
 use Rattle.basex_string.specs.Scan as strings
 use Rattle.basex_string.proofs.Laws as string-laws
-use Rattle.basex.specs.declared.Found.{Found}
-use Rattle.basex.specs.declared.Found.TheVariants.{Known, Unknown}
 use Rattle.basex.specs.declared.Reply.{Reply}
 use Rattle.basex.specs.Kinds.{starts_command, find_of, is_command}
 use Rattle.basex.specs.Request.{Request, encode, opens, Published}
@@ -63,7 +62,7 @@ unfolding reading encode
 read-published [] q rest e = let z : ◌≡◌ {A = ℕ} 0 1 = cc in absurd (omega arith)
 read-published (b ∷ s) q rest e = by (find_of b) refl e
   where
-    command : (n : ℕ) (reply : Reply) → find_of b ≡ Known n reply → is_command reply ≡ true → (x : Got (List ℕ)) → strings.reading (b ∷ s) ≡ x
+    command : (n : ℕ) (reply : Reply) → find_of b ≡ Some (n, reply) → is_command reply ≡ true → (x : Got (List ℕ)) → strings.reading (b ∷ s) ≡ x
         → go_on x (λ t. give (Request.command t)) ≡ Got.got q rest → Exactly (b ∷ s) q rest
     command n reply f c (Got.refused r) p g = let z : ◌≡◌ {A = ℕ} 0 1 = cc in absurd (omega arith)
     command n reply f c (Got.got t more) p g =
@@ -72,18 +71,18 @@ read-published (b ∷ s) q rest e = by (find_of b) refl e
         let l : more ≡ rest = cc in
         subst (λ (r : Request). Exactly (b ∷ s) r rest) k (opened t more s b x (command_starts b n reply f c), x ∙ ap (λ (m : List ℕ). string t ++ m) l)
 
-    coded : (n : ℕ) (reply : Reply) → find_of b ≡ Known n reply → is_command reply ≡ false → (x : Got (List (List ℕ))) → texts n s ≡ x
+    coded : (n : ℕ) (reply : Reply) → find_of b ≡ Some (n, reply) → is_command reply ≡ false → (x : Got (List (List ℕ))) → texts n s ≡ x
         → go_on x (λ ts. give (Request.coded b ts)) ≡ Got.got q rest → Exactly (b ∷ s) q rest
     coded n reply f c (Got.refused r) p g = let z : ◌≡◌ {A = ℕ} 0 1 = cc in absurd (omega arith)
     coded n reply f c (Got.got ts more) p g =
         let x = texts_exact n s ts more p in
         let k : Request.coded b ts ≡ q = cc in
         let l : more ≡ rest = cc in
-        subst (λ (r : Request). Exactly (b ∷ s) r rest) k ((reply, f ∙ ap (λ (m : ℕ). Known m reply) (sym x.0), c), ap (λ (m : List ℕ). b ∷ m) (x.1 ∙ ap (λ (m : List ℕ). strings_of ts ++ m) l))
+        subst (λ (r : Request). Exactly (b ∷ s) r rest) k ((reply, f ∙ ap (λ (m : ℕ). Some (m, reply)) (sym x.0), c), ap (λ (m : List ℕ). b ∷ m) (x.1 ∙ ap (λ (m : List ℕ). strings_of ts ++ m) l))
 
-    by : (f : Found) → find_of b ≡ f → fields_of b f s ≡ Got.got q rest → Exactly (b ∷ s) q rest
-    by Unknown p g = let z : ◌≡◌ {A = ℕ} 0 1 = cc in absurd (omega arith)
-    by (Known n reply) p g = which (is_command reply) refl g
+    by : (f : Option (ℕ × Reply)) → find_of b ≡ f → fields_of b f s ≡ Got.got q rest → Exactly (b ∷ s) q rest
+    by None p g = let z : ◌≡◌ {A = ℕ} 0 1 = cc in absurd (omega arith)
+    by (Some (n, reply)) p g = which (is_command reply) refl g
       where
         which : (c : Bool) → is_command reply ≡ c → if c (go_on (strings.reading (b ∷ s)) (λ t. give (Request.command t))) (go_on (texts n s) (λ ts. give (Request.coded b ts)))
             ≡ Got.got q rest → Exactly (b ∷ s) q rest

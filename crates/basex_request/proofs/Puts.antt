@@ -1,4 +1,5 @@
 -- What writing answers, and what it leaves in the output.
+use Rattle.std.specs.Prelude.{Some, None, Result, Ok, Err}
 use mathlib.Core.Path.{◌≡◌, refl, sym, ap, subst, ◌∙◌}
 use mathlib.Core.List.{List, [], ◌∷◌, ◌++◌}
 use mathlib.Core.Bool.{true, false}
@@ -13,9 +14,6 @@ use Rattle.wire.proofs.Call.{room-there, room-short, refused-short}
 use Rattle.wire.proofs.Splices.{Ahead, start, put_at-fits}
 use Rattle.basex_string.proofs.Room.{writes_not, writes_all}
 use Rattle.basex_string.specs.Strings.{string}
-use Rattle.wire.specs.declared.Counted.{Counted}
-use Rattle.wire.specs.declared.Counted.TheVariants.{Count, Refused}
-use Rattle.basex.specs.declared.Found.TheVariants.{Known, Unknown}
 use Rattle.basex.specs.declared.Reply.{Reply}
 use Rattle.basex.specs.Kinds.{starts_command, find_of, is_command}
 use Rattle.basex.specs.Request.{Request, encode, opens}
@@ -34,14 +32,14 @@ first-opens (b ∷ t) h = refl
 
 -- a COMMAND's string, and what is refused with 11
 module _ (out t : List ℕ) where
-  abbrev WritesCommand : Counted → List ℕ → Type 0
+  abbrev WritesCommand : Result ℕ Refusal → List ℕ → Type 0
   WritesCommand = Writes (request_written (length out) (Request.command t)) out 0 (encode (Request.command t))
 
-  pub command-put : {r : Counted} {after : List ℕ} → opens t ≡ true → Writes (in_room (length out) 0 (length (string t))) out 0 (string t) r after → WritesCommand r after
+  pub command-put : {r : Result ℕ Refusal} {after : List ℕ} → opens t ≡ true → Writes (in_room (length out) 0 (length (string t))) out 0 (string t) r after → WritesCommand r after
   unfolding encode
   command-put o w = rw o w
 
-  pub command_not : opens t ≡ false → WritesCommand (Refused NoEncoding) out
+  pub command_not : opens t ≡ false → WritesCommand (Err NoEncoding) out
   command_not o = rw o (record { answers = refl; leaves = refl })
 
 -- a kind's first byte and strings
@@ -53,20 +51,20 @@ module _ (a b c d : List ℕ) (kind n : ℕ) where
   unfolding encode
   coded-length = ap suc (ap length (taken-strings a b c d n) ∙ simp length-append)
 
-  abbrev WritesCoded : List ℕ → Counted → List ℕ → Type 0
+  abbrev WritesCoded : List ℕ → Result ℕ Refusal → List ℕ → Type 0
   WritesCoded out = Writes (request_written (length out) request) out 0 (encode request)
 
-  pub coded_not : (out : List ℕ) (k : ℕ) {r : Refusal} → length (encode request) ≡ 1 + k → in_room (length out) 1 k ≡ Refused r → WritesCoded out (Refused r) out
+  pub coded_not : (out : List ℕ) (k : ℕ) {r : Refusal} → length (encode request) ≡ 1 + k → in_room (length out) 1 k ≡ Err r → WritesCoded out (Err r) out
   coded_not out k {r} e f =
       let h = refused-short (length out) 1 k r f in
       let l = h.1 in
-      writes_not out 0 (encode request) refl (room-short (length out) 0 (length (encode request)) (omega arith) ∙ ap Refused (sym h.0))
+      writes_not out 0 (encode request) refl (room-short (length out) 0 (length (encode request)) (omega arith) ∙ ap Err (sym h.0))
 
   pub coded-put : (out : List ℕ) {k : ℕ} {after : List ℕ} → length (encode request) ≤ length out
-      → Gives (length (encode request)) (put_at out 0 (encode request)) k after → WritesCoded out (Count k) after
+      → Gives (length (encode request)) (put_at out 0 (encode request)) k after → WritesCoded out (Ok k) after
   coded-put out h g =
       let f : 0 + length (encode request) ≤ length out = omega arith in
-      writes_all out 0 (encode request) refl (room-there (length out) 0 (length (encode request)) f ∙ ap Count (sym g.answers)) (g.leaves ∙ put_at-fits out 0 (encode request) f)
+      writes_all out 0 (encode request) refl (room-there (length out) 0 (length (encode request)) f ∙ ap Ok (sym g.answers)) (g.leaves ∙ put_at-fits out 0 (encode request) f)
 
   -- nothing was written yet: the first byte is ahead, and the strings that are taken
   pub coded-ahead : (out : List ℕ) → length (encode request) ≤ length out
@@ -80,20 +78,20 @@ module _ (a b c d : List ℕ) (kind n : ℕ) where
 -- what the table makes of a kind
 module _ (kind : ℕ) (ts : List (List ℕ)) where
   -- the contract of writing
-  abbrev WritesRequest : List ℕ → Counted → List ℕ → Type 0
+  abbrev WritesRequest : List ℕ → Result ℕ Refusal → List ℕ → Type 0
   WritesRequest out = Writes (written (length out) kind ts) out 0 (bytes_of kind ts)
 
-  pub unknown-written : (out : List ℕ) → find_of kind ≡ Unknown → WritesRequest out (Refused UnknownInstruction) out
+  pub unknown-written : (out : List ℕ) → find_of kind ≡ None → WritesRequest out (Err UnknownInstruction) out
   unfolding written
   unknown-written out f = rw f (record { answers = refl; leaves = refl })
 
-  module _ (n : ℕ) (reply : Reply) (f : find_of kind ≡ Known n reply) where
-    pub unused-written : (out : List ℕ) → unused n ts ≡ false → WritesRequest out (Refused ValueNotAllowed) out
+  module _ (n : ℕ) (reply : Reply) (f : find_of kind ≡ Some (n, reply)) where
+    pub unused-written : (out : List ℕ) → unused n ts ≡ false → WritesRequest out (Err ValueNotAllowed) out
     unfolding written
     unused-written out u = rw f (rw u (record { answers = refl; leaves = refl }))
 
     -- the request that they are, answered and put
-    pub known_written : (out : List ℕ) (q : Request) {r : Counted} {after : List ℕ} → unused n ts ≡ true → q ≡ request_of kind n reply ts
+    pub known_written : (out : List ℕ) (q : Request) {r : Result ℕ Refusal} {after : List ℕ} → unused n ts ≡ true → q ≡ request_of kind n reply ts
         → Writes (request_written (length out) q) out 0 (encode q) r after → WritesRequest out r after
     unfolding written
     known_written out q u e w = rw f (rw u (rw (sym e) w))

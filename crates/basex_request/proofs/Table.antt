@@ -1,4 +1,5 @@
 -- What the table of kinds says of every kind, as one computed test.
+use Rattle.std.specs.Prelude.{Some}
 use mathlib.Core.Path.{◌≡◌, refl, sym, ap, ◌∙◌}
 use mathlib.Core.List.{List, [], ◌∷◌}
 use mathlib.Core.Bool.{Bool, true, false}
@@ -10,7 +11,6 @@ use Rattle.wire.specs.Bytes.{if}
 use Rattle.basex.specs.declared.Kind.{Kind}
 use Rattle.basex.specs.declared.Reply.{Reply}
 use Rattle.basex.specs.declared.Reply.TheVariants.{Command}
-use Rattle.basex.specs.declared.Found.TheVariants.{Known}
 use Rattle.basex.specs.Kinds.{kinds, starts_command, row_byte, search as scan, find_of, is_command}
 
 -- a test holds of every row
@@ -22,19 +22,23 @@ both : (a b : Bool) → if a b false ≡ true → (a ≡ true) × (b ≡ true)
 both true b e = (refl, e)
 both false b e = let z : ◌≡◌ {A = ℕ} 0 1 = cc in absurd (omega arith)
 
+some-same : {A : Type 0} {a b : A} → Some a ≡ Some b → a ≡ b
+some-same e = cc
+
 -- .. and so of what is found
-found_row : (test : Kind → Bool) (b : ℕ) (ks : List Kind) (n : ℕ) (reply : Reply) → each test ks ≡ true → scan b ks ≡ Known n reply → test (b, n, reply) ≡ true
+found_row : (test : Kind → Bool) (b : ℕ) (ks : List Kind) (n : ℕ) (reply : Reply) → each test ks ≡ true → scan b ks ≡ Some (n, reply) → test (b, n, reply) ≡ true
 unfolding scan
 found_row test b [] n reply h e = let z : ◌≡◌ {A = ℕ} 0 1 = cc in absurd (omega arith)
 found_row test b (k ∷ ks) n reply h e =
     let t = both (test k) (each test ks) h in
     by (found_row test b ks n reply t.1) (eqb k.0 b) refl e
   where
-    by : (scan b ks ≡ Known n reply → test (b, n, reply) ≡ true) → (f : Bool) → eqb k.0 b ≡ f → if f (Known k.1 k.2) (scan b ks) ≡ Known n reply → test (b, n, reply) ≡ true
+    by : (scan b ks ≡ Some (n, reply) → test (b, n, reply) ≡ true) → (f : Bool) → eqb k.0 b ≡ f → if f (Some (k.1, k.2)) (scan b ks) ≡ Some (n, reply) → test (b, n, reply) ≡ true
     by later true p q =
         let x : k.0 ≡ b = eqb-true k.0 b p in
-        let y : k.1 ≡ n = cc in
-        let z : k.2 ≡ reply = cc in
+        let f = some-same q in
+        let y : k.1 ≡ n = ap (λ (r : ℕ × Reply). r.0) f in
+        let z : k.2 ≡ reply = ap (λ (r : ℕ × Reply). r.1) f in
         let same : ◌≡◌ {A = Kind} k (b, n, reply) = λ i. (x i, y i, z i) in
         ap test (sym same) ∙ (both (test k) (each test ks) h).0
     by later false p q = later q
@@ -47,7 +51,7 @@ each_row : each row kinds ≡ true
 unfolding kinds
 each_row = refl
 
-module _ (b n : ℕ) (reply : Reply) (found : find_of b ≡ Known n reply) where
+module _ (b n : ℕ) (reply : Reply) (found : find_of b ≡ Some (n, reply)) where
   here : row (row_byte b, n, reply) ≡ true
   unfolding find_of
   here = found_row row (row_byte b) kinds n reply each_row found
@@ -70,18 +74,18 @@ module _ (b n : ℕ) (reply : Reply) (found : find_of b ≡ Known n reply) where
       by false p e = sym p ∙ ap starts_command e
 
 -- .. and every such byte is
-pub starts_command_lem : (b : ℕ) → starts_command b ≡ true → find_of b ≡ Known 1 Command
+pub starts_command_lem : (b : ℕ) → starts_command b ≡ true → find_of b ≡ Some (1, Command)
 unfolding find_of scan kinds
 starts_command_lem b s = rw s refl
 
 -- a kind that is no COMMAND has its own byte in its row
-pub coded_row : (b n : ℕ) (reply : Reply) → find_of b ≡ Known n reply → is_command reply ≡ false → b ≡ row_byte b
+pub coded_row : (b n : ℕ) (reply : Reply) → find_of b ≡ Some (n, reply) → is_command reply ≡ false → b ≡ row_byte b
 coded_row b n reply f c = by (starts_command b) refl
   where
     by : (s : Bool) → starts_command b ≡ s → b ≡ if s 0x20 b
     by true p =
-        let k : Known 1 Command ≡ Known n reply = sym (starts_command_lem b p) ∙ f in
-        let r : Command ≡ reply = cc in
+        let k : Some (1, Command) ≡ Some (n, reply) = sym (starts_command_lem b p) ∙ f in
+        let r : Command ≡ reply = ap (λ (r : ℕ × Reply). r.1) (some-same k) in
         let t : true ≡ false = ap is_command r ∙ c in
         let z : ◌≡◌ {A = ℕ} 0 1 = cc in
         absurd (omega arith)

@@ -1,4 +1,5 @@
 -- Writing gives exactly the published requests.
+use Rattle.std.specs.Prelude.{Option, Some, None, Ok, Err}
 use mathlib.Core.Path.{◌≡◌, refl, sym, ap, subst, ◌∙◌}
 use mathlib.Core.List.{List, [], ◌∷◌, flatten}
 use mathlib.Core.Bool.{Bool, true, false}
@@ -13,9 +14,6 @@ use Rattle.wire.specs.Bytes.{if}
 use Rattle.wire.specs.Call.{in_room}
 use Rattle.wire.specs.declared.Refusal.TheVariants.{ValueNotAllowed, NoEncoding}
 use Rattle.wire.proofs.Call.{room-there, counted-there}
-use Rattle.wire.specs.declared.Counted.TheVariants.{Count, Refused}
-use Rattle.basex.specs.declared.Found.{Found}
-use Rattle.basex.specs.declared.Found.TheVariants.{Known, Unknown}
 use Rattle.basex.specs.declared.Reply.{Reply}
 use Rattle.basex.specs.declared.Reply.TheVariants.{Command}
 use Rattle.basex.specs.Kinds.{starts_command, row_byte, find_of, is_command}
@@ -42,7 +40,7 @@ padded-taken (a ∷ (b ∷ (c ∷ (d ∷ (e ∷ ts))))) h = absurd (omega arith)
 record Given (q : Request) : Type 0 where
   n : ℕ
   reply : Reply
-  found : find_of (kind_of q) ≡ Known n reply
+  found : find_of (kind_of q) ≡ Some (n, reply)
   rest : unused n (padded (texts_of q)) ≡ true
   meant : request_of (kind_of q) n reply (padded (texts_of q)) ≡ q
   opens : encodable q ≡ true
@@ -103,10 +101,10 @@ taken_or_empty ts n k u = by (ltb k n) refl
         let l = length-take n ts in
         get_or-eq_default (take n ts) [] (omega arith) ∙ sym (empty (get_or ts k []) (omega arith))
 
-written-size : (room : ℕ) (q : Request) (n : ℕ) → request_written room q ≡ Count n → (encodable q ≡ true) × (length (encode q) ≡ n) × (n ≤ room)
+written-size : (room : ℕ) (q : Request) (n : ℕ) → request_written room q ≡ Ok n → (encodable q ≡ true) × (length (encode q) ≡ n) × (n ≤ room)
 written-size room q n e = by (encodable q) refl e
   where
-    by : (o : Bool) → encodable q ≡ o → if o (in_room room 0 (length (encode q))) (Refused NoEncoding) ≡ Count n → (encodable q ≡ true) × (length (encode q) ≡ n) × (n ≤ room)
+    by : (o : Bool) → encodable q ≡ o → if o (in_room room 0 (length (encode q))) (Err NoEncoding) ≡ Ok n → (encodable q ≡ true) × (length (encode q) ≡ n) × (n ≤ room)
     by true o p =
         let h = counted-there room 0 (length (encode q)) n p in
         let r = h.1 in
@@ -122,7 +120,7 @@ module _ (room kind : ℕ) (a b c d : List ℕ) (n : ℕ) where
   abbrev ts : List (List ℕ)
   ts = four a b c d
 
-  module _ (m : ℕ) (reply : Reply) (found : find_of kind ≡ Known m reply) (u : unused m (four a b c d) ≡ true) where
+  module _ (m : ℕ) (reply : Reply) (found : find_of kind ≡ Some (m, reply)) (u : unused m (four a b c d) ≡ true) where
     others_empty : padded (take m ts) ≡ ts
     others_empty =
         let w = taken_or_empty ts m 0 u in
@@ -138,28 +136,28 @@ module _ (room kind : ℕ) (a b c d : List ℕ) (n : ℕ) where
         (Request.command a, o, rw s refl, subst (λ (k : ℕ). padded (take k ts) ≡ ts) (command-one kind m reply found h) others_empty, l, r)
     wrote false h o l r =
         let t = length-take-le m ts (at_most_four kind m reply found) in
-        (Request.coded kind (take m ts), (reply, found ∙ ap (λ (k : ℕ). Known k reply) (sym t), h), coded_row kind m reply found h, others_empty, l, r)
+        (Request.coded kind (take m ts), (reply, found ∙ ap (λ (k : ℕ). Some (k, reply)) (sym t), h), coded_row kind m reply found h, others_empty, l, r)
 
-  writing : written room kind ts ≡ Count n → Wrote room kind ts n
+  writing : written room kind ts ≡ Ok n → Wrote room kind ts n
   unfolding written
   writing e = by (find_of kind) refl e
     where
-      by : (f : Found) → find_of kind ≡ f → written_as room kind f (four a b c d) ≡ Count n → Wrote room kind (four a b c d) n
-      by Unknown p e = let z : ◌≡◌ {A = ℕ} 0 1 = cc in absurd (omega arith)
-      by (Known m reply) p e = takes (unused m (four a b c d)) refl e
+      by : (f : Option (ℕ × Reply)) → find_of kind ≡ f → written_as room kind f (four a b c d) ≡ Ok n → Wrote room kind (four a b c d) n
+      by None p e = let z : ◌≡◌ {A = ℕ} 0 1 = cc in absurd (omega arith)
+      by (Some (m, reply)) p e = takes (unused m (four a b c d)) refl e
         where
-          takes : (f : Bool) → unused m (four a b c d) ≡ f → if f (request_written room (request_of kind m reply (four a b c d))) (Refused ValueNotAllowed) ≡ Count n → Wrote room kind (four a b c d) n
+          takes : (f : Bool) → unused m (four a b c d) ≡ f → if f (request_written room (request_of kind m reply (four a b c d))) (Err ValueNotAllowed) ≡ Ok n → Wrote room kind (four a b c d) n
           takes true u e = let x = written-size room (request_of kind m reply (four a b c d)) n e in wrote m reply p u (is_command reply) refl x.0 x.1 x.2
           takes false u e = let z : ◌≡◌ {A = ℕ} 0 1 = cc in absurd (omega arith)
 
-  written_so : Wrote room kind ts n → written room kind ts ≡ Count n
+  written_so : Wrote room kind ts n → written room kind ts ≡ Ok n
   written_so w =
       let p = published-written w.0 w.1 room in
       let h : 0 + length (encode w.0) ≤ room = let l = w.4 in let r = w.5 in omega arith in
-      row_written kind ts room ∙ ap (λ (k : ℕ). written room k ts) (sym w.2) ∙ ap (written room (kind_of w.0)) (sym w.3) ∙ p ∙ room-there room 0 (length (encode w.0)) h ∙ ap Count w.4
+      row_written kind ts room ∙ ap (λ (k : ℕ). written room k ts) (sym w.2) ∙ ap (written room (kind_of w.0)) (sym w.3) ∙ p ∙ room-there room 0 (length (encode w.0)) h ∙ ap Ok w.4
 
   -- a kind and four texts are written exactly if they are a published request's, for which there is room
-  pub writing_exact : (written room kind (four a b c d) ≡ Count n) ↔ Wrote room kind (four a b c d) n
+  pub writing_exact : (written room kind (four a b c d) ≡ Ok n) ↔ Wrote room kind (four a b c d) n
   writing_exact = (writing, written_so)
 
 -- .. and what is written is its encoding

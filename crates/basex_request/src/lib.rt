@@ -13,131 +13,77 @@ ghost use Rattle.basex_request.specs.inner.Places.{strings_from, request_at};
 
 mod coding;
 
-use basex::{Found, TwoAt};
-use wire::{Counted, Refusal};
+use wire::Refusal;
 
 // The kind (its first byte, 20 for COMMAND), how long each text is, and how many bytes were read; or
 // why none was. The texts stand one behind the other in the output.
 #[derive(Clone, Copy)]
-pub enum Requested {
-    Read {
-        kind: u8,
-        first: usize,
-        second: usize,
-        third: usize,
-        fourth: usize,
-        read: usize,
-    },
-    Refused(Refusal),
+pub struct Requested {
+    pub kind: u8,
+    pub first: usize,
+    pub second: usize,
+    pub third: usize,
+    pub fourth: usize,
+    pub read: usize,
 }
 
-// A request that reads well: its kind, where its n strings start, how long each text is, and how
-// many bytes it has.
+// A request that reads well: where its n strings start, and what is told of it.
 #[derive(Clone, Copy)]
-enum RequestAt {
-    At {
-        kind: u8,
-        from: usize,
-        n: usize,
-        first: usize,
-        second: usize,
-        third: usize,
-        fourth: usize,
-        read: usize,
-    },
-    Refused(Refusal),
-}
-
-fn beyond_two(n: usize) -> usize
-    ensures { result ≡ n - 2 }
-{
-    if n < 2 { 0 } else { n - 2 }
+struct RequestAt {
+    from: usize,
+    n: usize,
+    told: Requested,
 }
 
 // A request of a kind whose n strings start at `from`, judged two by two.
-fn strings_from(bytes: &[u8], kind: u8, from: usize, n: usize) -> RequestAt
+fn strings_from(bytes: &[u8], kind: u8, from: usize, n: usize) -> Result<RequestAt, Refusal>
     requires { n ≤ 4 }
     ensures { result ≡ strings_from kind from (length bytes.now - from) (texts n (drop from bytes.now)) }
 {
-    match basex::two_at(bytes, from, n) {
-        TwoAt::Refused(r) => RequestAt::Refused(r),
-        TwoAt::At {
-            first,
-            second,
-            next,
-        } => {
-            match basex::two_at(bytes, next, beyond_two(n)) {
-                TwoAt::Refused(r) => RequestAt::Refused(r),
-                TwoAt::At {
-                    first: third,
-                    second: fourth,
-                    next: read,
-                } => RequestAt::At {
-                    kind,
-                    from,
-                    n,
-                    first,
-                    second,
-                    third,
-                    fourth,
-                    read,
-                },
-            }
-        }
-    }
+    let one = basex::two_at(bytes, from, n)?;
+    let two = basex::two_at(bytes, one.next, n.saturating_sub(2))?;
+    Ok(RequestAt {
+        from,
+        n,
+        told: Requested {
+            kind,
+            first: one.first,
+            second: one.second,
+            third: two.first,
+            fourth: two.second,
+            read: two.next,
+        },
+    })
 }
 
 // The request at the front of the bytes, judged; nothing is stored.
-fn judge(bytes: &[u8]) -> RequestAt
+fn judge(bytes: &[u8]) -> Result<RequestAt, Refusal>
     ensures { result ≡ request_at (length bytes.now) (reading bytes.now) }
 {
-    if bytes.len() == 0 {
-        return RequestAt::Refused(Refusal::MoreBytes);
+    if bytes.is_empty() {
+        return Err(Refusal::MoreBytes);
     }
     let b = bytes[0];
-    match basex::find(b) {
-        Found::Unknown => RequestAt::Refused(Refusal::UnknownInstruction),
-        Found::Known(n, reply) => {
-            if basex::is_command(reply) {
-                strings_from(bytes, 0x20, 0, n)
-            } else {
-                strings_from(bytes, b, 1, n)
-            }
-        }
+    let (n, reply) = basex::find(b).ok_or(Refusal::UnknownInstruction)?;
+    if basex::is_command(reply) {
+        strings_from(bytes, 0x20, 0, n)
+    } else {
+        strings_from(bytes, b, 1, n)
     }
 }
 
 // The request at the front of the bytes, its texts one behind the other in the output.
-pub fn read_request(bytes: &[u8], out: &mut [u8]) -> Requested
+pub fn read_request(bytes: &[u8], out: &mut [u8]) -> Result<Requested, Refusal>
     ensures { Gives (requested (length bytes.now) (length out.old) (reading bytes.now))
         (output_read text_bytes out.old 0 (reading bytes.now)) result out.new }
 {
-    match judge(bytes) {
-        RequestAt::Refused(r) => Requested::Refused(r),
-        RequestAt::At {
-            kind,
-            from,
-            n,
-            first,
-            second,
-            third,
-            fourth,
-            read,
-        } => {
-            if out.len() < first + second + third + fourth {
-                return Requested::Refused(Refusal::NoRoom);
-            }
-            basex::store_judged_texts(bytes, from, n, out, 0);
-            Requested::Read {
-                kind,
-                first,
-                second,
-                third,
-                fourth,
-                read,
-            }
-        }
+    let found = judge(bytes)?;
+    let told = found.told;
+    if out.len() < told.first + told.second + told.third + told.fourth {
+        return Err(Refusal::NoRoom);
     }
+    basex::store_judged_texts(bytes, found.from, found.n, out, 0);
+    Ok(told)
 }
 
 // A request of a kind into the front of the output: the texts that the kind takes; the others are
@@ -149,22 +95,19 @@ pub fn write_request(
     second: &[u8],
     third: &[u8],
     fourth: &[u8],
-) -> Counted
+) -> Result<usize, Refusal>
     ensures { Writes
         (written (length out.old) kind (four first.now second.now third.now fourth.now))
         out.old 0
         (bytes_of kind (four first.now second.now third.now fourth.now)) result out.new }
 {
-    match basex::find(kind) {
-        Found::Unknown => Counted::Refused(Refusal::UnknownInstruction),
-        Found::Known(n, reply) => {
-            if coding::takes(n, first, second, third, fourth) {
-                if basex::is_command(reply) {
-                    return coding::write_command(out, first);
-                }
-                return coding::write_coded(out, kind, n, first, second, third, fourth);
-            }
-            Counted::Refused(Refusal::ValueNotAllowed)
-        }
+    let (n, reply) = basex::find(kind).ok_or(Refusal::UnknownInstruction)?;
+    if !coding::takes(n, first, second, third, fourth) {
+        return Err(Refusal::ValueNotAllowed);
+    }
+    if basex::is_command(reply) {
+        coding::write_command(out, first)
+    } else {
+        coding::write_coded(out, kind, n, first, second, third, fourth)
     }
 }

@@ -1,4 +1,6 @@
 -- The end of a response: its bytes part by part, and what writing it answers.
+use Rattle.std.specs.Prelude.{Some, Result, Err}
+use Rattle.wire.specs.declared.Refusal.{Refusal}
 use mathlib.Core.Path.{◌≡◌, refl, sym, ap, ◌∙◌}
 use mathlib.Core.Bool.{Bool, true, false}
 use mathlib.Core.List.{List, [], ◌∷◌, ◌++◌, flatten, append-nil, flat_map}
@@ -9,17 +11,14 @@ use lib.ListN.{length, take, length-append}
 use borrow.Author.Tests.{leb-true}
 use Rattle.wire.specs.Bytes.{if}
 use Rattle.wire.specs.declared.Refusal.TheVariants.{ValueNotAllowed}
-use Rattle.wire.specs.declared.Counted.{Counted}
-use Rattle.wire.specs.declared.Counted.TheVariants.{Refused}
 use Rattle.basex_string.specs.Strings.{string}
 use Rattle.basex.specs.declared.Reply.{Reply}
-use Rattle.basex.specs.declared.Found.TheVariants.{Known}
 use Rattle.basex.specs.Kinds.{find_of, ahead, behind, listed, status_allowed}
 use Rattle.basex.specs.Response.{encode}
-use Rattle.basex.specs.Texts.{string_if, strings, unused}
+use Rattle.basex.specs.Texts.{place_if, string_if, strings, unused}
 use Rattle.wire.specs.Call.{in_room}
 use Rattle.basex_response.specs.Writing.{end_of, end_written, end_written_as, end_bytes}
-use Rattle.basex_response.specs.inner.Spelling.{place_if, zero_if, ahead_parts, last_parts, end_parts, end_allowed}
+use Rattle.basex_response.specs.inner.Spelling.{zero_if, ahead_parts, last_parts, end_parts, end_allowed}
 use Rattle.basex_response.proofs.Fields.{ahead-few, behind-few}
 
 pub ahead-size : (n : ℕ) (first second : List ℕ) → length (ahead_parts n first second) ≡ length (string_if (ltb 0 n) first) + length (string_if (ltb 1 n) second)
@@ -67,14 +66,14 @@ one_place (suc zero) h error = refl
 one_place (suc (suc n)) h error = absurd (omega arith)
 
 -- what writing an end answers
-abbrev chosen : Bool → Counted → Counted
-chosen t x = if t x (Refused ValueNotAllowed)
+abbrev chosen : Bool → Result ℕ Refusal → Result ℕ Refusal
+chosen t x = if t x (Err ValueNotAllowed)
 
 module _ (room at : ℕ) (n : ℕ) (reply : Reply) (first second : List ℕ) (status : ℕ) (error : List ℕ) where
-  abbrev answer : Counted
+  abbrev answer : Result ℕ Refusal
   answer = in_room room at (length (encode reply (end_of reply first second status error)))
 
-  end-told : end_written_as room at (Known n reply) first second status error ≡ chosen (end_allowed reply first second status error) answer
+  end-told : end_written_as room at (Some (n, reply)) first second status error ≡ chosen (end_allowed reply first second status error) answer
   end-told = by (status_allowed status) refl
     where
       twice : (p q r : Bool) → chosen (if p q false) (chosen r answer) ≡ chosen (if p (if q r false) false) answer
@@ -98,8 +97,8 @@ module _ (room at : ℕ) (n : ℕ) (reply : Reply) (first second : List ℕ) (st
       by true p x q = leb-true status 1 p
       by false p x q = let z : ◌≡◌ {A = ℕ} 0 1 = cc in absurd (omega arith)
 
-  module _ (kind : ℕ) (k : find_of kind ≡ Known n reply) where
-    pub end_refused : end_allowed reply first second status error ≡ false → Refused ValueNotAllowed ≡ end_written room at kind first second status error
+  module _ (kind : ℕ) (k : find_of kind ≡ Some (n, reply)) where
+    pub end_refused : end_allowed reply first second status error ≡ false → Err ValueNotAllowed ≡ end_written room at kind first second status error
     unfolding end_written
     end_refused e = rw k (sym (end-told ∙ rw e refl))
 

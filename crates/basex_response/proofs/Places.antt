@@ -1,4 +1,5 @@
 -- An item where it stands in a slice.
+use Rattle.std.specs.Prelude.{Ok, Err}
 use mathlib.Core.Path.{◌≡◌, refl, sym, ap, ◌∙◌}
 use mathlib.Core.Bool.{Bool, true, false}
 use mathlib.Core.List.{List}
@@ -11,7 +12,7 @@ use Rattle.wire.specs.Fields.{Got}
 use Rattle.wire.specs.declared.Refusal.{Refusal}
 use Rattle.wire.specs.declared.Refusal.TheVariants.{MoreBytes, ValueNotAllowed}
 use Rattle.basex_string.proofs.Steps.{here}
-use Rattle.basex.specs.declared.TwoAt.TheVariants as two_at_variants
+use Rattle.basex.specs.declared.TwoAt.{TwoAt}
 use Rattle.basex.specs.Kinds.{id_allowed, has_uri, item_strings}
 use Rattle.basex.specs.Texts.{texts, two_at}
 use Rattle.basex_response.specs.declared.ItemAt.TheVariants as item-at
@@ -37,19 +38,19 @@ at_most_two false = omega arith
 
 -- what `item_at` answers, as it goes
 module _ (full : Bool) (b : List ℕ) (at : ℕ) where
-  pub past : length b ≤ at → item-at.Refused MoreBytes ≡ item_at full at (length b - at) (next full (drop at b))
+  pub past : length b ≤ at → Err MoreBytes ≡ item_at full at (length b - at) (next full (drop at b))
   unfolding next
   past h = rw (drop_of_length-le b h) refl
 
   module _ (h : at < length b) where
-    pub ended : get_or b at 0 ≡ 0 → item-at.End (at + 1) ≡ item_at full at (length b - at) (next full (drop at b))
+    pub ended : get_or b at 0 ≡ 0 → Ok (item-at.End (at + 1)) ≡ item_at full at (length b - at) (next full (drop at b))
     unfolding next
     ended e =
         let n : at + 1 ≡ at + (length b - at - length (drop (at + 1) b)) = omega (arith, length-drop (at + 1) b) in
-        rw (here b at h) (rw (eq-eqb _ _ e) (ap item-at.End n))
+        rw (here b at h) (rw (eq-eqb _ _ e) (ap (λ (m : ℕ). Ok (item-at.End m)) n))
 
     module _ (k : get_or b at 0 ≡ 0 → ⊥) where
-      pub not_allowed : id_allowed (get_or b at 0) ≡ false → item-at.Refused ValueNotAllowed ≡ item_at full at (length b - at) (next full (drop at b))
+      pub not_allowed : id_allowed (get_or b at 0) ≡ false → Err ValueNotAllowed ≡ item_at full at (length b - at) (next full (drop at b))
       unfolding next
       not_allowed g = rw (here b at h) (rw (ne_eqb _ _ k) (rw g refl))
 
@@ -65,22 +66,22 @@ module _ (full : Bool) (b : List ℕ) (at : ℕ) where
           reads : (x : Got (List (List ℕ))) → texts n (drop (at + 1) b) ≡ x → next full (drop at b) ≡ told (get_or b at 0) x
           reads x p = goes ∙ ap (told (get_or b at 0)) (ap (λ (m : ℕ). texts m (drop (at + 1) b)) (sym e) ∙ p)
 
-          pub texts-refused : (r : Refusal) → two_at (at + 1) (length b - (at + 1)) (texts (min n 2) (drop (at + 1) b)) ≡ two_at_variants.Refused r
-              → item-at.Refused r ≡ item_at full at (length b - at) (next full (drop at b))
+          pub texts-refused : (r : Refusal) → two_at (at + 1) (length b - (at + 1)) (texts (min n 2) (drop (at + 1) b)) ≡ Err r
+              → Err r ≡ item_at full at (length b - at) (next full (drop at b))
           texts-refused r t = rw (reads _ (two_not b (at + 1) n few r t)) refl
 
-          module _ (first second last : ℕ) (t : two_at (at + 1) (length b - (at + 1)) (texts (min n 2) (drop (at + 1) b)) ≡ two_at_variants.At first second last) where
-            ends : (w : Two b (at + 1) n first second last) → last ≡ at + (length b - at - length w.rest)
+          module _ (found : TwoAt) (t : two_at (at + 1) (length b - (at + 1)) (texts (min n 2) (drop (at + 1) b)) ≡ Ok found) where
+            ends : (w : Two b (at + 1) n found) → found.next ≡ at + (length b - at - length w.rest)
             ends w = let k = w.ends in let l = w.whole in omega arith
 
-            pub with_uri : n ≡ 2 → item-at.Item (get_or b at 0) first second last ≡ item_at full at (length b - at) (next full (drop at b))
+            pub with_uri : n ≡ 2 → Ok (item-at.Item (get_or b at 0) found.first found.second found.next) ≡ item_at full at (length b - at) (next full (drop at b))
             with_uri z =
-                let w = two_here b (at + 1) n few first second last t in
+                let w = two_here b (at + 1) n few found t in
                 let u = two-of (has_uri full (get_or b at 0)) (sym e ∙ z) in
                 rw (reads _ w.got) (rw u (cc (w.one, w.two, ends w)))
 
-            pub without_uri : (n ≡ 2 → ⊥) → item-at.Item (get_or b at 0) 0 first last ≡ item_at full at (length b - at) (next full (drop at b))
+            pub without_uri : (n ≡ 2 → ⊥) → Ok (item-at.Item (get_or b at 0) 0 found.first found.next) ≡ item_at full at (length b - at) (next full (drop at b))
             without_uri z =
-                let w = two_here b (at + 1) n few first second last t in
+                let w = two_here b (at + 1) n few found t in
                 let u = one_of (has_uri full (get_or b at 0)) (λ p. z (e ∙ p)) in
                 rw (reads _ w.got) (rw u (cc (w.one, ends w)))

@@ -1,4 +1,5 @@
 -- How much room texts take, and where what stands behind them starts.
+use Rattle.std.specs.Prelude.{Ok, Err}
 use mathlib.Core.Path.{◌≡◌, refl, sym, ap, ◌∙◌}
 use mathlib.Core.List.{List, [], ◌∷◌, ◌++◌, flatten, append_assoc, flat_map}
 use Prim.Native.Nat.{ℕ, ◌+◌, ◌-◌, ◌≤◌, min}
@@ -7,9 +8,10 @@ use lib.ListN.{length, drop, length-append, length-drop}
 use lib.Seq.{drop-drop, drop-append_seam}
 use Rattle.wire.specs.Fields.{Got}
 use Rattle.wire.specs.declared.Refusal.{Refusal}
+use Rattle.basex_string.proofs.Handed.{ok-same}
 use Rattle.basex_string.specs.Strings.{string}
+use Rattle.basex.specs.declared.TwoAt.{TwoAt}
 use Rattle.basex_string.proofs.Steps.{string-length}
-use Rattle.basex.specs.declared.TwoAt.TheVariants.{At, Refused}
 use Rattle.basex.specs.Texts.{strings, texts, two_at, length_at}
 use Rattle.basex.proofs.Texts.{texts_exact}
 
@@ -53,33 +55,41 @@ module _ (b : List ℕ) (at : ℕ) (bytes rest : List ℕ) (e : drop at b ≡ by
   behind-is = sym (drop-drop (length bytes) at b) ∙ ap (drop (length bytes)) e ∙ drop-append_seam bytes rest
 
 -- up to two strings stand at `at`: their texts, and where what is behind them starts
-pub record Two (b : List ℕ) (at n first second last : ℕ) : Type 0 where
+pub record Two (b : List ℕ) (at n : ℕ) (found : TwoAt) : Type 0 where
   pub ts : List (List ℕ)
   pub rest : List ℕ
   pub got : texts n (drop at b) ≡ Got.got ts rest
-  pub one : first ≡ length_at ts 0
-  pub two : second ≡ length_at ts 1
-  pub ends : last ≡ at + length (strings ts)
-  pub behind : drop last b ≡ rest
+  pub one : found.first ≡ length_at ts 0
+  pub two : found.second ≡ length_at ts 1
+  pub ends : found.next ≡ at + length (strings ts)
+  pub behind : drop found.next b ≡ rest
   pub whole : length (strings ts) + length rest ≡ length b - at
 
 module _ (b : List ℕ) (at n : ℕ) (h : n ≤ 2) where
-  pub two_here : (first second last : ℕ) → two_at at (length b - at) (texts (min n 2) (drop at b)) ≡ At first second last → Two b at n first second last
-  two_here first second last e = by (texts n (drop at b)) refl (ap (λ (m : ℕ). two_at at (length b - at) (texts m (drop at b))) (let m : n ≡ min n 2 = omega arith in m) ∙ e)
+  pub two_here : (found : TwoAt) → two_at at (length b - at) (texts (min n 2) (drop at b)) ≡ Ok found → Two b at n found
+  two_here found e = by (texts n (drop at b)) refl (ap (λ (m : ℕ). two_at at (length b - at) (texts m (drop at b))) (let m : n ≡ min n 2 = omega arith in m) ∙ e)
     where
-      by : (x : Got (List (List ℕ))) → texts n (drop at b) ≡ x → two_at at (length b - at) x ≡ At first second last → Two b at n first second last
+      by : (x : Got (List (List ℕ))) → texts n (drop at b) ≡ x → two_at at (length b - at) x ≡ Ok found → Two b at n found
       by (Got.refused r) p q = let z : ◌≡◌ {A = ℕ} 0 1 = cc in absurd (omega arith)
       by (Got.got ts rest) p q =
           let x = (texts_exact n (drop at b) ts rest p).1 in
-          let f : first ≡ length_at ts 0 = cc in
-          let s : second ≡ length_at ts 1 = cc in
-          let l : last ≡ at + (length b - at - length rest) = cc in
+          let y = sym (ok-same q) in
+          let l : found.next ≡ at + (length b - at - length rest) = ap (λ (t : TwoAt). t.next) y in
           let k = l ∙ behind-at b at (strings ts) rest x in
-          record { ts = ts; rest = rest; got = p; one = f; two = s; ends = k; behind = ap (λ (m : ℕ). drop m b) k ∙ behind-is b at (strings ts) rest x; whole = all_of b at (strings ts) rest x }
+          record {
+            ts = ts;
+            rest = rest;
+            got = p;
+            one = ap (λ (t : TwoAt). t.first) y;
+            two = ap (λ (t : TwoAt). t.second) y;
+            ends = k;
+            behind = ap (λ (m : ℕ). drop m b) k ∙ behind-is b at (strings ts) rest x;
+            whole = all_of b at (strings ts) rest x;
+          }
 
-  pub two_not : (r : Refusal) → two_at at (length b - at) (texts (min n 2) (drop at b)) ≡ Refused r → texts n (drop at b) ≡ Got.refused r
+  pub two_not : (r : Refusal) → two_at at (length b - at) (texts (min n 2) (drop at b)) ≡ Err r → texts n (drop at b) ≡ Got.refused r
   two_not r e = by (texts n (drop at b)) (ap (λ (m : ℕ). two_at at (length b - at) (texts m (drop at b))) (let m : n ≡ min n 2 = omega arith in m) ∙ e)
     where
-      by : (x : Got (List (List ℕ))) → two_at at (length b - at) x ≡ Refused r → x ≡ Got.refused r
+      by : (x : Got (List (List ℕ))) → two_at at (length b - at) x ≡ Err r → x ≡ Got.refused r
       by (Got.refused q) p = let z : q ≡ r = cc in ap Got.refused z
       by (Got.got ts rest) p = let z : ◌≡◌ {A = ℕ} 0 1 = cc in absurd (omega arith)

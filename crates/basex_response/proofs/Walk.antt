@@ -1,4 +1,6 @@
 -- The walk over a list of items in a slice: each starts where the one before it ends.
+use Rattle.std.specs.Prelude.{Result, Ok, Err}
+use Rattle.basex_response.specs.inner.Judging.{items_there, items_at}
 use mathlib.Core.Path.{◌≡◌, refl, sym, ap, ◌∙◌}
 use mathlib.Core.Bool.{Bool, true, false}
 use mathlib.Core.List.{List, ◌∷◌, ◌++◌, flatten, flat_map}
@@ -14,9 +16,7 @@ use Rattle.basex.specs.Texts.{length_at}
 use Rattle.basex.proofs.Texts.{texts_exact}
 use Rattle.basex_response.specs.declared.ItemAt.TheVariants as item-at
 use Rattle.basex_response.specs.declared.items.ItemsAt.{ItemsAt}
-use Rattle.basex_response.specs.declared.items.ItemsAt.TheVariants as items_at_variants
 use Rattle.basex_response.specs.Items.{Next, next, list, item_texts, item_at, uri_length, text_length}
-use Rattle.basex_response.specs.inner.Judging.{items_at}
 use Rattle.basex_response.proofs.Sizes.{flatten-append, two-lengths, one-length, all_of, behind-at, behind-is}
 use Rattle.basex_response.proofs.Lists.{next-item, item_exact, item-size, list-refused, list-end, list-item, list-room}
 
@@ -56,10 +56,10 @@ module _ (full : Bool) (b : List ℕ) (at : ℕ) where
         sum = omega arith;
       }
 
-  pub here : (id uri text last : ℕ) → item_at full at (length b - at) (next full (drop at b)) ≡ item-at.Item id uri text last → Here full b at uri text last
+  pub here : (id uri text last : ℕ) → item_at full at (length b - at) (next full (drop at b)) ≡ Ok (item-at.Item id uri text last) → Here full b at uri text last
   here id uri text last e = by (next full (drop at b)) refl e
     where
-      by : (x : Got Next) → next full (drop at b) ≡ x → item_at full at (length b - at) x ≡ item-at.Item id uri text last → Here full b at uri text last
+      by : (x : Got Next) → next full (drop at b) ≡ x → item_at full at (length b - at) x ≡ Ok (item-at.Item id uri text last) → Here full b at uri text last
       by (Got.refused r) p q = let z : ◌≡◌ {A = ℕ} 0 1 = cc in absurd (omega arith)
       by (Got.got Next.end rest) p q = let z : ◌≡◌ {A = ℕ} 0 1 = cc in absurd (omega arith)
       by (Got.got (Next.item i) rest) p q =
@@ -69,41 +69,44 @@ module _ (full : Bool) (b : List ℕ) (at : ℕ) where
           let l : last ≡ at + (length b - at - length rest) = cc in
           rw (u, t, l) s
 
-  not_here : (r : Refusal) → item_at full at (length b - at) (next full (drop at b)) ≡ item-at.Refused r → next full (drop at b) ≡ Got.refused r
+  not_here : (r : Refusal) → item_at full at (length b - at) (next full (drop at b)) ≡ Err r → next full (drop at b) ≡ Got.refused r
   not_here r e = by (next full (drop at b)) e
     where
-      by : (x : Got Next) → item_at full at (length b - at) x ≡ item-at.Refused r → x ≡ Got.refused r
+      by : (x : Got Next) → item_at full at (length b - at) x ≡ Err r → x ≡ Got.refused r
       by (Got.refused q) p = let z : q ≡ r = cc in ap Got.refused z
       by (Got.got Next.end rest) p = let z : ◌≡◌ {A = ℕ} 0 1 = cc in absurd (omega arith)
       by (Got.got (Next.item i) rest) p = let z : ◌≡◌ {A = ℕ} 0 1 = cc in absurd (omega arith)
 
   -- what the list from here on is told as, by what stands here
-  pub walk_refused : (r : Refusal) → item_at full at (length b - at) (next full (drop at b)) ≡ item-at.Refused r → items_at at (length b - at) (list full (drop at b)) ≡ items_at_variants.Refused r
+  pub walk_refused : (r : Refusal) → item_at full at (length b - at) (next full (drop at b)) ≡ Err r → items_at at (length b - at) (list full (drop at b)) ≡ Err r
   walk_refused r e = ap (items_at at (length b - at)) (list-refused full (drop at b) r (not_here r e))
 
-  pub walk_end : (last : ℕ) → item_at full at (length b - at) (next full (drop at b)) ≡ item-at.End last → items_at at (length b - at) (list full (drop at b)) ≡ items_at_variants.At 0 0 last
+  pub walk_end : (last : ℕ) → item_at full at (length b - at) (next full (drop at b)) ≡ Ok (item-at.End last) → items_at at (length b - at) (list full (drop at b)) ≡ items_there 0 0 last
   unfolding flat_map flatten
   walk_end last e = by (next full (drop at b)) refl e
     where
-      by : (x : Got Next) → next full (drop at b) ≡ x → item_at full at (length b - at) x ≡ item-at.End last → items_at at (length b - at) (list full (drop at b)) ≡ items_at_variants.At 0 0 last
+      by : (x : Got Next) → next full (drop at b) ≡ x → item_at full at (length b - at) x ≡ Ok (item-at.End last) → items_at at (length b - at) (list full (drop at b)) ≡ items_there 0 0 last
       by (Got.refused r) p q = let z : ◌≡◌ {A = ℕ} 0 1 = cc in absurd (omega arith)
       by (Got.got (Next.item i) rest) p q = let z : ◌≡◌ {A = ℕ} 0 1 = cc in absurd (omega arith)
-      by (Got.got Next.end rest) p q = let l : at + (length b - at - length rest) ≡ last = cc in rw (list-end full (drop at b) rest p) (ap (items_at_variants.At 0 0) l)
+      by (Got.got Next.end rest) p q = let l : at + (length b - at - length rest) ≡ last = cc in rw (list-end full (drop at b) rest p) (ap (items_there 0 0) l)
 
 -- so many items with so many bytes of text ahead of a list
-abbrev pub after : ℕ → ℕ → ItemsAt → ItemsAt
-after count listed (items_at_variants.Refused r) = items_at_variants.Refused r
-after count listed (items_at_variants.At n m last) = items_at_variants.At (count + n) (listed + m) last
+abbrev pub after : ℕ → ℕ → Result ItemsAt Refusal → Result ItemsAt Refusal
+after count listed (Err r) = Err r
+after count listed (Ok told) = items_there (count + told.count) (listed + told.listed) told.next
 
-pub after_none : (x : ItemsAt) → x ≡ after 0 0 x
-after_none (items_at_variants.Refused r) = refl
-after_none (items_at_variants.At n m last) = let p : n ≡ 0 + n = omega arith in let q : m ≡ 0 + m = omega arith in (cc)
+pub after_none : (x : Result ItemsAt Refusal) → x ≡ after 0 0 x
+after_none (Err r) = refl
+after_none (Ok told) =
+    let p : told.count ≡ 0 + told.count = omega arith in
+    let q : told.listed ≡ 0 + told.listed = omega arith in
+    ap (λ (n : ℕ). items_there n told.listed told.next) p ∙ ap (λ (n : ℕ). items_there (0 + told.count) n told.next) q
 
-pub after_one : (count listed m : ℕ) (x : ItemsAt) → after count listed (after 1 m x) ≡ after (count + 1) (listed + m) x
-after_one count listed m (items_at_variants.Refused r) = refl
-after_one count listed m (items_at_variants.At n k last) =
-    let p : count + (1 + n) ≡ count + 1 + n = omega arith in
-    let q : listed + (m + k) ≡ listed + m + k = omega arith in
+pub after_one : (count listed m : ℕ) (x : Result ItemsAt Refusal) → after count listed (after 1 m x) ≡ after (count + 1) (listed + m) x
+after_one count listed m (Err r) = refl
+after_one count listed m (Ok x) =
+    let p : count + (1 + x.count) ≡ count + 1 + x.count = omega arith in
+    let q : listed + (m + x.listed) ≡ listed + m + x.listed = omega arith in
     (cc)
 
 pub walk_item : (full : Bool) (b : List ℕ) (at uri text last : ℕ) → Here full b at uri text last

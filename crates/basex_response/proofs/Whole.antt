@@ -1,4 +1,5 @@
 -- A response that was read: its parts, how long its texts are together, and storing them one behind the other.
+use Rattle.std.specs.Prelude.{Result, Ok, Err}
 use mathlib.Core.Path.{◌≡◌, refl, sym, ap, subst, ◌∙◌}
 use mathlib.Core.Bool.{Bool, true, false}
 use mathlib.Core.List.{List, [], ◌∷◌, ◌++◌, flatten, append-nil, flat_map}
@@ -13,6 +14,7 @@ use Rattle.wire.specs.Fields.{Got, go_on, give, required}
 use Rattle.wire.specs.declared.Refusal.{Refusal}
 use Rattle.wire.specs.declared.Refusal.TheVariants.{MoreBytes, ValueNotAllowed, NoRoom}
 use Rattle.wire.proofs.Splices.{Ahead, start, step, put_at-fits, put_at_not}
+use Rattle.basex_string.proofs.Handed.{ok-same}
 use Rattle.basex_string.proofs.Steps.{ahead_none}
 use Rattle.basex_string.specs.Answers.{output_read}
 use Rattle.basex_string.specs.declared.Ends.{Ends}
@@ -22,7 +24,6 @@ use Rattle.basex.specs.Response.{Item, Response, list_bytes}
 use Rattle.basex.specs.Texts.{strings, texts, length_at, TextsStored, texts_stored, ends}
 use Rattle.basex.proofs.Texts.{texts_exact}
 use Rattle.basex_response.specs.declared.Replied.{Replied}
-use Rattle.basex_response.specs.declared.Replied.TheVariants as replied
 use Rattle.basex_response.specs.Items.{list, item_texts}
 use Rattle.basex_response.specs.Reading.{list_field, fields_of, all_texts, reading, reading_as, text_bytes, judgement, answered}
 use Rattle.basex_response.specs.inner.Judging.{Ending, ending, ListFits, list_stored, Fits}
@@ -211,57 +212,63 @@ module _ (reply : Reply) (b : List ℕ) (items status : ℕ) (out : List ℕ) (j
         ahead_none v.writes refl ∙ sym (put_at-fits out 0 (flatten (all_texts j.response)) (let t = j.fits in omega arith)) ∙ ap (output_read text_bytes out 0) (sym j.got)
 
 -- what judging told: a response, how long its texts are together, and the answer with the room
-pub record Told (reply : Reply) (b : List ℕ) (sum items status : ℕ) : Type 0 where
+pub record Told (reply : Reply) (b : List ℕ) (found : Replied) : Type 0 where
   pub response : Response
   pub rest : List ℕ
   pub got : fields_of reply b ≡ Got.got response rest
-  pub all : sum ≡ length (flatten (all_texts response))
-  pub count : items ≡ length response.items
-  pub state : status ≡ response.status
-  pub short : sum ≤ length b
+  pub all : found.first + found.second + found.listed + found.error ≡ length (flatten (all_texts response))
+  pub count : found.items ≡ length response.items
+  pub state : found.status ≡ response.status
+  pub short : found.first + found.second + found.listed + found.error ≤ length b
 
 module _ (reply : Reply) (b : List ℕ) where
-  pub told : (first second items size status error last : ℕ) → judgement (length b) (fields_of reply b) ≡ replied.Read first second items size status error last
-      → Told reply b (first + second + size + error) items status
-  told first second items size status error last e = by (fields_of reply b) refl e
+  pub told : (found : Replied) → judgement (length b) (fields_of reply b) ≡ Ok found → Told reply b found
+  told found e = by (fields_of reply b) refl e
     where
-      by : (x : Got Response) → fields_of reply b ≡ x → judgement (length b) x ≡ replied.Read first second items size status error last → Told reply b (first + second + size + error) items status
+      by : (x : Got Response) → fields_of reply b ≡ x → judgement (length b) x ≡ Ok found → Told reply b found
       by (Got.refused r) p q = let z : ◌≡◌ {A = ℕ} 0 1 = cc in absurd (omega arith)
       by (Got.got a rest) p q =
           let d = parts reply b a rest p in
-          let f : length_at a.texts 0 ≡ first = cc in
-          let s : length_at a.texts 1 ≡ second = cc in
-          let n : items ≡ length a.items = cc in
-          let m : length (flatten (item_texts a.items)) ≡ size = cc in
-          let t : status ≡ a.status = cc in
-          let r : length_at a.error 0 ≡ error = cc in
+          let y = ok-same q in
+          let f : length_at a.texts 0 ≡ found.first = ap (λ (t : Replied). t.first) y in
+          let s : length_at a.texts 1 ≡ found.second = ap (λ (t : Replied). t.second) y in
+          let m : length (flatten (item_texts a.items)) ≡ found.listed = ap (λ (t : Replied). t.listed) y in
+          let r : length_at a.error 0 ≡ found.error = ap (λ (t : Replied). t.error) y in
           let w = all_told reply b a rest d in
           let h = all_short reply b a rest d in
-          record { response = a; rest = rest; got = p; all = omega arith; count = n; state = t; short = omega arith }
+          record {
+            response = a;
+            rest = rest;
+            got = p;
+            all = omega arith;
+            count = ap (λ (t : Replied). t.items) (sym y);
+            state = ap (λ (t : Replied). t.status) (sym y);
+            short = omega arith;
+          }
 
   -- a contract of reading
-  abbrev Reads : List ℕ → Got Response → Replied → List ℕ → Type 0
+  abbrev Reads : List ℕ → Got Response → Result Replied Refusal → List ℕ → Type 0
   Reads out x = Gives (answered (length b) (length out) x) (output_read text_bytes out 0 x)
 
-  pub not_told : (r : Refusal) (out : List ℕ) → judgement (length b) (fields_of reply b) ≡ replied.Refused r → Reads out (fields_of reply b) (replied.Refused r) out
+  pub not_told : (r : Refusal) (out : List ℕ) → judgement (length b) (fields_of reply b) ≡ Err r → Reads out (fields_of reply b) (Err r) out
   not_told r out e = by (fields_of reply b) e
     where
-      by : (x : Got Response) → judgement (length b) x ≡ replied.Refused r → Reads out x (replied.Refused r) out
-      by (Got.refused q) p = let z : r ≡ q = cc in record { answers = ap replied.Refused z; leaves = refl }
+      by : (x : Got Response) → judgement (length b) x ≡ Err r → Reads out x (Err r) out
+      by (Got.refused q) p = let z : r ≡ q = cc in record { answers = ap Err z; leaves = refl }
       by (Got.got a rest) p = let z : ◌≡◌ {A = ℕ} 0 1 = cc in absurd (omega arith)
 
-  module _ (sum items status : ℕ) (t : Told reply b sum items status) (out : List ℕ) where
-    pub no_room : length out < sum → Reads out (fields_of reply b) (replied.Refused NoRoom) out
+  module _ (found : Replied) (t : Told reply b found) (out : List ℕ) where
+    pub no_room : length out < found.first + found.second + found.listed + found.error → Reads out (fields_of reply b) (Err NoRoom) out
     no_room h =
         let a = t.all in
         let n : List ℕ = text_bytes t.response in
         record { answers = rw t.got (rw (lt-ltb (length out) (length n) (omega arith)) refl); leaves = rw t.got (sym (put_at_not out 0 n (omega arith))) }
 
-    pub roomy : sum ≤ length out → judgement (length b) (fields_of reply b) ≡ answered (length b) (length out) (fields_of reply b)
+    pub roomy : found.first + found.second + found.listed + found.error ≤ length out → judgement (length b) (fields_of reply b) ≡ answered (length b) (length out) (fields_of reply b)
     roomy h = let a = t.all in rw t.got (rw (le-ltb (length out) (length (flatten (all_texts t.response))) (omega arith)) refl)
 
-    pub fitting : sum ≤ length out → Fits items status (length out) (fields_of reply b)
-    fitting h = let a = t.all in subst (Fits items status (length out)) (sym t.got) (t.count, t.state, omega arith)
+    pub fitting : found.first + found.second + found.listed + found.error ≤ length out → Fits found.items found.status (length out) (fields_of reply b)
+    fitting h = let a = t.all in subst (Fits found.items found.status (length out)) (sym t.got) (t.count, t.state, omega arith)
 
 -- no byte, and the kind
 module _ (kind : ℕ) (b : List ℕ) where

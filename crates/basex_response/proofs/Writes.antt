@@ -1,4 +1,5 @@
 -- The writer's items, and what a call that writes answers and leaves.
+use Rattle.std.specs.Prelude.{Some, Result, Err}
 use mathlib.Core.Path.{◌≡◌, refl, sym, ap, ◌∙◌}
 use mathlib.Core.Bool.{Bool, true, false}
 use mathlib.Core.List.{List, [], ◌∷◌, ◌++◌, flatten, append-nil, flat_map}
@@ -11,16 +12,13 @@ use Rattle.wire.specs.Call.{in_room, output_after, put_at, Gives, Writes}
 use Rattle.wire.specs.declared.Refusal.{Refusal}
 use Rattle.wire.specs.declared.Refusal.TheVariants.{ValueNotAllowed}
 use Rattle.wire.proofs.Call.{put-after, refused-leaves}
-use Rattle.wire.specs.declared.Counted.{Counted}
-use Rattle.wire.specs.declared.Counted.TheVariants.{Refused}
 use Rattle.basex_string.specs.Strings.{string}
 use Rattle.basex.specs.declared.Reply.{Reply}
-use Rattle.basex.specs.declared.Found.TheVariants.{Known}
 use Rattle.basex.specs.Kinds.{find_of, listed, is_full, id_allowed, has_uri, item_strings}
 use Rattle.basex.specs.Response.{item_bytes}
-use Rattle.basex.specs.Texts.{string_if, strings, unused}
+use Rattle.basex.specs.Texts.{place_if, string_if, strings, unused}
 use Rattle.basex_response.specs.Writing.{item_of, full_of, item_written}
-use Rattle.basex_response.specs.inner.Spelling.{place_if, item_parts}
+use Rattle.basex_response.specs.inner.Spelling.{item_parts}
 
 -- an item
 pub item-parts : (full : Bool) (id : ℕ) (uri text : List ℕ) → item_parts (has_uri full id) id uri text ≡ item_bytes (item_of full id uri text)
@@ -47,17 +45,17 @@ uri-place true uri = refl
 uri-place false uri = ap (λ (m : List ℕ). eqb (length m) 0) (append-nil uri)
 
 -- what a writer answers and leaves, where its bytes are those of a definition
-pub put_writes : (out : List ℕ) (at : ℕ) (parts bytes : List ℕ) → parts ≡ bytes → (answer : Counted) → in_room (length out) at (length parts) ≡ answer → {r : Counted} {after : List ℕ}
+pub put_writes : (out : List ℕ) (at : ℕ) (parts bytes : List ℕ) → parts ≡ bytes → (answer : Result ℕ Refusal) → in_room (length out) at (length parts) ≡ answer → {r : Result ℕ Refusal} {after : List ℕ}
     → Gives (in_room (length out) at (length parts)) (put_at out at parts) r after → Writes answer out at bytes r after
 put_writes out at parts bytes p answer e g =
-    let q = ap (λ (c : Counted). output_after c out at parts) e ∙ ap (output_after answer out at) p in
+    let q = ap (λ (c : Result ℕ Refusal). output_after c out at parts) e ∙ ap (output_after answer out at) p in
     record { answers = g.answers ∙ e; leaves = g.leaves ∙ put-after out at parts ∙ q }
 
-pub refused_writes : (answer : Counted) (r : Refusal) (out : List ℕ) (at : ℕ) (bytes : List ℕ) → Refused r ≡ answer → Writes answer out at bytes (Refused r) out
+pub refused_writes : (answer : Result ℕ Refusal) (r : Refusal) (out : List ℕ) (at : ℕ) (bytes : List ℕ) → Err r ≡ answer → Writes answer out at bytes (Err r) out
 refused_writes answer r out at bytes e = record { answers = e; leaves = sym (refused-leaves answer r out at bytes (sym e)) }
 
 -- an item that may be written
-module _ (room at kind id : ℕ) (n : ℕ) (reply : Reply) (uri text : List ℕ) (k : find_of kind ≡ Known n reply) (u : Bool) (e : u ≡ has_uri (is_full reply) id) where
+module _ (room at kind id : ℕ) (n : ℕ) (reply : Reply) (uri text : List ℕ) (k : find_of kind ≡ Some (n, reply)) (u : Bool) (e : u ≡ has_uri (is_full reply) id) where
   pub item-bytes : item_parts u id uri text ≡ item_bytes (item_of (full_of (find_of kind)) id uri text)
   item-bytes = rw k (ap (λ (v : Bool). item_parts v id uri text) e ∙ item-parts (is_full reply) id uri text)
 
@@ -69,7 +67,7 @@ module _ (room at kind id : ℕ) (n : ℕ) (reply : Reply) (uri text : List ℕ)
         let b : item_parts u id uri text ≡ item_bytes (item_of (is_full reply) id uri text) = ap (λ (v : Bool). item_parts v id uri text) e ∙ item-parts (is_full reply) id uri text in
         rw k (rw (l, d) (rw q (ap (λ (m : List ℕ). in_room room at (length m)) b)))
 
-    pub item-no-place : place_if u uri ≡ false → Refused ValueNotAllowed ≡ item_written room at kind id uri text
+    pub item-no-place : place_if u uri ≡ false → Err ValueNotAllowed ≡ item_written room at kind id uri text
     unfolding item_written
     item-no-place p =
         let q : if (has_uri (is_full reply) id) true (unused 0 (uri ∷ [])) ≡ false = uri-place (has_uri (is_full reply) id) uri ∙ ap (λ (v : Bool). place_if v uri) (sym e) ∙ p in

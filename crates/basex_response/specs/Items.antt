@@ -1,6 +1,7 @@
 -- Document 01, "An item is a type id (7-15 or 32-83, else 8), in FULL a URI string after 12, 14 and 82, and a string": reading them off the front.
+use Rattle.std.specs.Prelude.{Result, Ok, Err, ℕ, zero, suc, ◌+◌, ◌-◌}
+use Rattle.wire.specs.declared.Refusal.{Refusal}
 use mathlib.Core.{Bool.Bool, List.List, List.[], List.◌∷◌, List.flat_map}
-use Rattle.std.specs.Prelude.{ℕ, zero, suc, ◌+◌, ◌-◌}
 use lib.{Dec.eqb, ListN.length}
 use Rattle.wire.specs.{Bytes.if, Fields.Got, Fields.Field, Fields.go_on, Fields.give}
 use Rattle.wire.specs.declared.Refusal.TheVariants.{MoreBytes, ValueNotAllowed}
@@ -43,7 +44,7 @@ abbrev pub text_length : Bool → Item → ℕ
 text_length full i = if (has_uri full i.id) (length_at i.texts 1) (length_at i.texts 0)
 
 -- of n bytes from `at` on, what stands there, as places: the id, how long the URI and the text are, and where what follows starts
-abbrev pub item_at : Bool → ℕ → ℕ → Got Next → ItemAt
-item_at full at n (Got.refused r) = ItemAt.Refused r
-item_at full at n (Got.got (Next.item i) rest) = ItemAt.Item i.id (uri_length full i) (text_length full i) (at + (n - length rest))
-item_at full at n (Got.got Next.end rest) = ItemAt.End (at + (n - length rest))
+abbrev pub item_at : Bool → ℕ → ℕ → Got Next → Result ItemAt Refusal
+item_at full at n (Got.refused r) = Err r
+item_at full at n (Got.got (Next.item i) rest) = Ok (ItemAt.Item i.id (uri_length full i) (text_length full i) (at + (n - length rest)))
+item_at full at n (Got.got Next.end rest) = Ok (ItemAt.End (at + (n - length rest)))

@@ -1,12 +1,18 @@
 -- Document 01, "Responses are read knowing the request": what reading one answers.
+use Rattle.std.specs.Prelude.{Result, Ok, Err, Option, Some, None, ℕ, ◌-◌}
+use Rattle.wire.specs.declared.Refusal.{Refusal}
 use mathlib.Core.List.{List, [], ◌∷◌, ◌++◌, flatten}
-use Rattle.std.specs.Prelude.{ℕ, ◌-◌}
 use lib.{Dec.ltb, ListN.length}
 use Rattle.wire.specs.{Bytes.if, Fields.Got, Fields.Field, Fields.◌>>=◌, Fields.◌>>◌, Fields.give, Fields.required}
 use Rattle.wire.specs.declared.Refusal.TheVariants.{MoreBytes, UnknownInstruction, ValueNotAllowed, NoRoom}
-use Rattle.basex.specs.{declared.Found.Found, declared.Reply.Reply, Kinds.find_of, Kinds.ahead, Kinds.behind, Kinds.listed, Kinds.is_full, Kinds.status_allowed}
+use Rattle.basex.specs.{declared.Reply.Reply, Kinds.find_of, Kinds.ahead, Kinds.behind, Kinds.listed, Kinds.is_full, Kinds.status_allowed}
 use Rattle.basex.specs.{Response.Item, Response.Response, Texts.texts, Texts.length_at}
 use Rattle.basex_response.specs.{declared.Replied.Replied, Items.list, Items.item_texts}
+
+-- a response that was read
+abbrev pub read_as_response : ℕ → ℕ → ℕ → ℕ → ℕ → ℕ → ℕ → Result Replied Refusal
+read_as_response first second items listed status error read =
+    Ok (record { first = first; second = second; items = items; listed = listed; status = status; error = error; read = read })
 
 abbrev pub byte_field : Field ℕ
 byte_field [] = Got.refused MoreBytes
@@ -26,9 +32,9 @@ fields_of reply = do
   es ← texts (behind reply status)
   give (record { texts = ts; items = is; status = status; error = es })
 
-abbrev pub reading_as : Found → Field Response
-reading_as Found.Unknown s = Got.refused UnknownInstruction
-reading_as (Found.Known n reply) s = fields_of reply s
+abbrev pub reading_as : Option (ℕ × Reply) → Field Response
+reading_as None s = Got.refused UnknownInstruction
+reading_as (Some (n, reply)) s = fields_of reply s
 
 -- a response to a request that starts with the byte: "1 for no byte, 2, then fields"
 unfoldable pub reading : ℕ → Field Response
@@ -44,13 +50,13 @@ abbrev pub text_bytes : Response → List ℕ
 text_bytes r = flatten (all_texts r)
 
 -- of n bytes: how long each text is (the first, the second, those of the items, the error), how many items, the status, and the bytes read
-abbrev pub judgement : ℕ → Got Response → Replied
-judgement n (Got.refused r) = Replied.Refused r
+abbrev pub judgement : ℕ → Got Response → Result Replied Refusal
+judgement n (Got.refused r) = Err r
 judgement n (Got.got p rest) =
-    Replied.Read (length_at p.texts 0) (length_at p.texts 1) (length p.items) (length (flatten (item_texts p.items))) p.status
+    read_as_response (length_at p.texts 0) (length_at p.texts 1) (length p.items) (length (flatten (item_texts p.items))) p.status
     (length_at p.error 0) (n - length rest)
 
 -- the same with an output of so many; "with 10 last"
-abbrev pub answered : ℕ → ℕ → Got Response → Replied
-answered n room (Got.refused r) = Replied.Refused r
-answered n room (Got.got p rest) = if (ltb room (length (text_bytes p))) (Replied.Refused NoRoom) (judgement n (Got.got p rest))
+abbrev pub answered : ℕ → ℕ → Got Response → Result Replied Refusal
+answered n room (Got.refused r) = Err r
+answered n room (Got.got p rest) = if (ltb room (length (text_bytes p))) (Err NoRoom) (judgement n (Got.got p rest))

@@ -4,80 +4,66 @@ ghost use Rattle.basex_response.specs.Items.{next, list, item_at};
 ghost use Rattle.basex_response.specs.inner.Judging.{items_at};
 
 use crate::ItemAt;
-use basex::TwoAt;
 use wire::Refusal;
 
 // What stands at `at` in a list of items, judged; nothing is stored. A caller walks the items with
 // it: their texts stand in the output one behind the other.
-pub fn item_at(full: bool, bytes: &[u8], at: usize) -> ItemAt
+pub fn item_at(full: bool, bytes: &[u8], at: usize) -> Result<ItemAt, Refusal>
     ensures { result ≡ item_at full at (length bytes.now - at) (next full (drop at bytes.now)) }
 {
     if bytes.len() <= at {
-        return ItemAt::Refused(Refusal::MoreBytes);
+        return Err(Refusal::MoreBytes);
     }
     let id = bytes[at];
     if id == 0 {
-        return ItemAt::End { next: at + 1 };
+        return Ok(ItemAt::End { next: at + 1 });
     }
     if !basex::id_allowed(id) {
-        return ItemAt::Refused(Refusal::ValueNotAllowed);
+        return Err(Refusal::ValueNotAllowed);
     }
     let n = basex::item_strings(full, id);
-    match basex::two_at(bytes, at + 1, n) {
-        TwoAt::Refused(r) => ItemAt::Refused(r),
-        TwoAt::At {
-            first,
-            second,
-            next,
-        } => {
-            if n == 2 {
-                ItemAt::Item {
-                    id,
-                    uri: first,
-                    text: second,
-                    next,
-                }
-            } else {
-                ItemAt::Item {
-                    id,
-                    uri: 0,
-                    text: first,
-                    next,
-                }
-            }
-        }
+    let texts = basex::two_at(bytes, at + 1, n)?;
+    if n == 2 {
+        Ok(ItemAt::Item {
+            id,
+            uri: texts.first,
+            text: texts.second,
+            next: texts.next,
+        })
+    } else {
+        Ok(ItemAt::Item {
+            id,
+            uri: 0,
+            text: texts.first,
+            next: texts.next,
+        })
     }
 }
 
 // How many items a list has, how many bytes their texts have, and where the next field starts.
 #[derive(Clone, Copy)]
-pub enum ItemsAt {
-    At {
-        count: usize,
-        listed: usize,
-        next: usize,
-    },
-    Refused(Refusal),
+pub struct ItemsAt {
+    pub count: usize,
+    pub listed: usize,
+    pub next: usize,
 }
 
 // The list of items that starts at `at`, judged.
-pub fn items_at(full: bool, bytes: &[u8], at: usize) -> ItemsAt
+pub fn items_at(full: bool, bytes: &[u8], at: usize) -> Result<ItemsAt, Refusal>
     ensures { result ≡ items_at at (length bytes.now - at) (list full (drop at bytes.now)) }
 {
     let mut from = at;
     let mut count: usize = 0;
     let mut listed: usize = 0;
+    // No iterator: the bytes say how far a step goes, and a refusal ends them.
     loop {
-        match item_at(full, bytes, from) {
-            ItemAt::Refused(r) => {
-                return ItemsAt::Refused(r);
-            }
+        match item_at(full, bytes, from)? {
             ItemAt::End { next } => {
-                return ItemsAt::At {
+                return Ok(ItemsAt {
                     count,
                     listed,
                     next,
-                };
+                });
             }
             ItemAt::Item {
                 uri,

@@ -25,22 +25,18 @@ pub enum ItemAt {
     End {
         next: usize,
     },
-    Refused(Refusal),
 }
 
 // A response that was read: how many bytes each string ahead of the status has, how many items there
 // are and how many bytes their texts have together, the status, how many bytes the error behind it
 // has, and how many bytes were read. 0 stands for what the response does not have.
 #[derive(Clone, Copy)]
-pub enum Replied {
-    Read {
-        first: usize,
-        second: usize,
-        items: usize,
-        listed: usize,
-        status: u8,
-        error: usize,
-        read: usize,
-    },
-    Refused(Refusal),
+pub struct Replied {
+    pub first: usize,
+    pub second: usize,
+    pub items: usize,
+    pub listed: usize,
+    pub status: u8,
+    pub error: usize,
+    pub read: usize,
 }

@@ -1,40 +1,18 @@
-// Writes a response into lent output: item by item, and then its end. All of a part or nothing: on a
-// refusal, and behind the bytes written, the output stays as it was.
+// Writes a response into lent output: item by item, and then its end. Its fields come one by one, not
+// in a struct: so C's call and `write_end` have them. All of a part or nothing: on a refusal, and behind
+// the bytes written, the output stays as it was.
 ghost use Rattle.std.specs.Prelude.{◌≡◌, ◌+◌, ◌≤◌, length};
 ghost use Rattle.wire.specs.Call.{in_room, put_at, Gives, Writes};
 ghost use Rattle.basex.specs.Kinds.{find_of};
 ghost use Rattle.basex.specs.Response.{item_bytes};
-ghost use Rattle.basex.specs.Texts.{string_if};
 ghost use Rattle.basex_response.specs.Writing.{item_of, item_written, full_of, end_written, end_bytes};
-ghost use Rattle.basex_response.specs.inner.Spelling.{place_if, zero_if, item_parts, ahead_parts, last_parts, end_parts, end_allowed};
+ghost use Rattle.basex_response.specs.inner.Spelling.{zero_if, item_parts, ahead_parts, last_parts, end_parts, end_allowed};
 
-use basex::{Found, Reply};
-use wire::{Counted, Refusal};
-
-// Whether the text has a place, or is empty.
-fn has_place(present: bool, text: &[u8]) -> bool
-    ensures { result ≡ place_if present text.now }
-{
-    if present { true } else { text.len() == 0 }
-}
-
-// The text as a string where it is present; where the next field starts.
-fn put_string_if(out: &mut [u8], at: usize, present: bool, text: &[u8]) -> usize
-    requires { at + length (string_if present text.now) ≤ length out.old }
-    ensures { Gives (at + length (string_if present text.now))
-        (put_at out.old at (string_if present text.now)) result out.new }
-{
-    if present {
-        match basex_string::write_string(out, at, text) {
-            Counted::Refused(_) => at,
-            Counted::Count(n) => at + n,
-        }
-    } else {
-        at
-    }
-}
+use basex::{Reply, has_place, put_string_if, size_if};
+use wire::Refusal;
 
 // The 00 behind the items; where the next field starts.
+// A flag, not a closure: the table of replies has it.
 fn put_zero(out: &mut [u8], at: usize, present: bool) -> usize
     requires { at + length (zero_if present) ≤ length out.old }
     ensures { Gives (at + length (zero_if present)) (put_at out.old at (zero_if present)) result out.new }
@@ -48,68 +26,62 @@ fn put_zero(out: &mut [u8], at: usize, present: bool) -> usize
 }
 
 // An item that may be written, or 10.
-fn put_item(out: &mut [u8], at: usize, id: u8, uris: bool, uri: &[u8], text: &[u8]) -> Counted
+fn put_item(
+    out: &mut [u8],
+    at: usize,
+    id: u8,
+    uris: bool,
+    uri: &[u8],
+    text: &[u8],
+) -> Result<usize, Refusal>
     ensures { Gives (in_room (length out.old) at (length (item_parts uris id uri.now text.now)))
         (put_at out.old at (item_parts uris id uri.now text.now)) result out.new }
 {
-    let first = basex::size_if(uris, uri);
-    let second = basex::size_if(true, text);
-    let room = wire::parts_in_room(out.len(), at, 1, first, second, 0);
-    match room {
-        Counted::Refused(r) => Counted::Refused(r),
-        Counted::Count(n) => {
-            wire::put_byte(out, at, id);
-            let next = put_string_if(out, at + 1, uris, uri);
-            let _ = put_string_if(out, next, true, text);
-            Counted::Count(n)
-        }
-    }
+    let first = size_if(uris, uri);
+    let second = size_if(true, text);
+    let n = wire::parts_in_room(out.len(), at, 1, first, second, 0)?;
+    wire::put_byte(out, at, id);
+    let next = put_string_if(out, at + 1, uris, uri);
+    put_string_if(out, next, true, text);
+    Ok(n)
 }
 
 // From `at` on an item of the response to a request that starts with the byte `kind`. The URI is
 // empty where the item has none.
-pub fn write_item(out: &mut [u8], at: usize, kind: u8, id: u8, uri: &[u8], text: &[u8]) -> Counted
+pub fn write_item(
+    out: &mut [u8],
+    at: usize,
+    kind: u8,
+    id: u8,
+    uri: &[u8],
+    text: &[u8],
+) -> Result<usize, Refusal>
     ensures { Writes (item_written (length out.old) at kind id uri.now text.now)
         out.old at (item_bytes (item_of (full_of (find_of kind)) id uri.now text.now)) result out.new }
 {
-    match basex::find(kind) {
-        Found::Unknown => Counted::Refused(Refusal::UnknownInstruction),
-        Found::Known(_, reply) => {
-            if !basex::is_listed(reply) {
-                return Counted::Refused(Refusal::ValueNotAllowed);
-            }
-            if !basex::id_allowed(id) {
-                return Counted::Refused(Refusal::ValueNotAllowed);
-            }
-            let full = basex::is_full(reply);
-            let strings = basex::item_strings(full, id);
-            if !has_place(strings == 2, uri) {
-                return Counted::Refused(Refusal::ValueNotAllowed);
-            }
-            put_item(out, at, id, strings == 2, uri, text)
-        }
+    let (_, reply) = basex::find(kind).ok_or(Refusal::UnknownInstruction)?;
+    let full = basex::is_full(reply);
+    let uris = basex::item_strings(full, id) == 2;
+    if !basex::is_listed(reply) || !basex::id_allowed(id) || !has_place(uris, uri) {
+        return Err(Refusal::ValueNotAllowed);
     }
+    put_item(out, at, id, uris, uri, text)
 }
 
 // "Status above 01: 8.", and no text that the response does not take.
 fn end_allowed(reply: Reply, first: &[u8], second: &[u8], status: u8, error: &[u8]) -> bool
     ensures { result ≡ end_allowed reply first.now second.now status error.now }
 {
-    if 1 < status {
-        return false;
-    }
     let ahead = basex::strings_ahead(reply);
-    if !has_place(0 < ahead, first) {
-        return false;
-    }
-    if !has_place(1 < ahead, second) {
-        return false;
-    }
     let behind = basex::strings_behind(reply, status);
-    has_place(0 < behind, error)
+    status <= 1
+        && has_place(0 < ahead, first)
+        && has_place(1 < ahead, second)
+        && has_place(0 < behind, error)
 }
 
 // How many bytes the status takes, with the 00 ahead of it where there is a list.
+// A flag, not a closure: the table of replies has it.
 fn status_len(list: bool) -> usize
     ensures { result ≡ length (zero_if list) + 1 }
 {
@@ -125,15 +97,15 @@ fn end_room(
     second: &[u8],
     status: u8,
     error: &[u8],
-) -> Counted
+) -> Result<usize, Refusal>
     ensures { result ≡ in_room room at (length (end_parts reply first.now second.now status error.now)) }
 {
     let ahead = basex::strings_ahead(reply);
-    let a = basex::size_if(0 < ahead, first);
-    let b = basex::size_if(1 < ahead, second);
+    let a = size_if(0 < ahead, first);
+    let b = size_if(1 < ahead, second);
     let c = status_len(basex::is_listed(reply));
     let behind = basex::strings_behind(reply, status);
-    let d = basex::size_if(0 < behind, error);
+    let d = size_if(0 < behind, error);
     wire::parts_in_room(room, at, a, b, c, d)
 }
 
@@ -154,7 +126,7 @@ fn put_last(out: &mut [u8], at: usize, list: bool, status: u8, n: usize, error: 
 {
     let next = put_zero(out, at, list);
     wire::put_byte(out, next, status);
-    let _ = put_string_if(out, next + 1, 0 < n, error);
+    put_string_if(out, next + 1, 0 < n, error);
 }
 
 // An end that may be written, or 10.
@@ -166,23 +138,18 @@ fn put_end(
     second: &[u8],
     status: u8,
     error: &[u8],
-) -> Counted
+) -> Result<usize, Refusal>
     ensures { Gives
         (in_room (length out.old) at (length (end_parts reply first.now second.now status error.now)))
         (put_at out.old at (end_parts reply first.now second.now status error.now)) result out.new }
 {
-    let room = end_room(out.len(), at, reply, first, second, status, error);
-    match room {
-        Counted::Refused(r) => Counted::Refused(r),
-        Counted::Count(n) => {
-            let ahead = basex::strings_ahead(reply);
-            let list = basex::is_listed(reply);
-            let behind = basex::strings_behind(reply, status);
-            let next = put_ahead(out, at, ahead, first, second);
-            put_last(out, next, list, status, behind, error);
-            Counted::Count(n)
-        }
-    }
+    let n = end_room(out.len(), at, reply, first, second, status, error)?;
+    let ahead = basex::strings_ahead(reply);
+    let list = basex::is_listed(reply);
+    let behind = basex::strings_behind(reply, status);
+    let next = put_ahead(out, at, ahead, first, second);
+    put_last(out, next, list, status, behind, error);
+    Ok(n)
 }
 
 // From `at` on all of a response that has no list, and the end (00, status, error) of one that has
@@ -195,17 +162,13 @@ pub fn write_end(
     second: &[u8],
     status: u8,
     error: &[u8],
-) -> Counted
+) -> Result<usize, Refusal>
     ensures { Writes (end_written (length out.old) at kind first.now second.now status error.now)
         out.old at (end_bytes (find_of kind) first.now second.now status error.now) result out.new }
 {
-    match basex::find(kind) {
-        Found::Unknown => Counted::Refused(Refusal::UnknownInstruction),
-        Found::Known(_, reply) => {
-            if !end_allowed(reply, first, second, status, error) {
-                return Counted::Refused(Refusal::ValueNotAllowed);
-            }
-            put_end(out, at, reply, first, second, status, error)
-        }
+    let (_, reply) = basex::find(kind).ok_or(Refusal::UnknownInstruction)?;
+    if !end_allowed(reply, first, second, status, error) {
+        return Err(Refusal::ValueNotAllowed);
     }
+    put_end(out, at, reply, first, second, status, error)
 }

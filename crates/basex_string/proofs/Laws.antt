@@ -1,4 +1,5 @@
 -- Strings have one encoding, and reading takes exactly it.
+use Rattle.std.specs.Prelude.{Ok}
 use mathlib.Core.Path.{◌≡◌, refl, subst, sym, ap, ◌∙◌}
 use mathlib.Core.List.{List, [], ◌∷◌, ◌++◌, append_assoc}
 use mathlib.Core.Bool.{Bool, true, false}
@@ -17,7 +18,8 @@ use Rattle.wire.specs.Fields.{Got}
 use Rattle.basex_string.specs.Scan.{push, scan, reading}
 use Rattle.basex_string.specs.Answers.{located}
 use Rattle.basex_string.specs.inner.Storing.{text_read}
-use Rattle.basex_string.specs.declared.StringAt.TheVariants as string_at
+use Rattle.basex_string.specs.declared.StringAt.{StringAt}
+use Rattle.basex_string.proofs.Handed.{ok-same}
 use Rattle.basex_string.proofs.Steps.{string-length, string_clean}
 
 -- a byte as it stands in a string, read ahead of anything
@@ -102,26 +104,26 @@ next_field b at s rest e =
     (k, ap (λ (m : ℕ). drop m b) k ∙ sym (drop-drop (length (string s)) at b) ∙ ap (drop (length (string s))) x ∙ drop-append_seam (string s) rest)
 
 -- a string that was judged: where its bytes end, and its text where nothing is escaped
-module _ (b : List ℕ) (at len next : ℕ) where
-  located-got : (x : Got (List ℕ)) → reading (drop at b) ≡ x → located (length b) x ≡ string_at.At len next
-      → (at < next) × (next ≤ length b) × (next - 1 - at ≡ len → take len (drop at b) ≡ text_read x)
+module _ (b : List ℕ) (at : ℕ) (found : StringAt) where
+  located-got : (x : Got (List ℕ)) → reading (drop at b) ≡ x → located (length b) x ≡ Ok found
+      → (at < found.next) × (found.next ≤ length b) × (found.next - 1 - at ≡ found.len → take found.len (drop at b) ≡ text_read x)
   located-got (Got.refused r) e p = let z : ◌≡◌ {A = ℕ} 0 1 = cc in absurd (omega arith)
   located-got (Got.got s rest) e p =
-      let n : length b - length rest ≡ next = cc in
-      let l : length s ≡ len = cc in
+      let n : length b - length rest ≡ found.next = ap (λ (a : StringAt). a.next) (ok-same p) in
+      let l : length s ≡ found.len = ap (λ (a : StringAt). a.len) (ok-same p) in
       let f = (next_field b at s rest e).0 in
       let z = string-length s in (
         omega arith,
         omega arith,
-        (λ (q : next - 1 - at ≡ len). ap (take len)
-            (exact (drop at b) s rest e ∙ ap (λ (m : List ℕ). m ++ rest) (string_clean s (omega arith)) ∙ append_assoc s (0 ∷ []) rest) ∙ take_at s (0 ∷ rest) len l),
+        (λ (q : found.next - 1 - at ≡ found.len). ap (take found.len)
+            (exact (drop at b) s rest e ∙ ap (λ (m : List ℕ). m ++ rest) (string_clean s (omega arith)) ∙ append_assoc s (0 ∷ []) rest) ∙ take_at s (0 ∷ rest) found.len l),
       )
 
-  module _ (p : located (length b) (reading (drop at b)) ≡ string_at.At len next) where
-    pub located-next : (at < next) × (next ≤ length b)
+  module _ (p : located (length b) (reading (drop at b)) ≡ Ok found) where
+    pub located-next : (at < found.next) × (found.next ≤ length b)
     located-next = let g = located-got (reading (drop at b)) refl p in (g.0, g.1)
 
-    pub located-plain : next - 1 - at ≡ len → take (next - 1 - at) (drop at b) ≡ text_read (reading (drop at b))
+    pub located-plain : found.next - 1 - at ≡ found.len → take (found.next - 1 - at) (drop at b) ≡ text_read (reading (drop at b))
     located-plain q = rw q ((located-got (reading (drop at b)) refl p).2 q)
 
 -- one encoding for each string, and no string's is the start of another's

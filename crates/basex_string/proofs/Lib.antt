@@ -4,6 +4,7 @@ pub mod Scans
 pub mod Runs
 pub mod Pairs
 pub mod Few
+pub mod Handed
 pub mod Laws
 pub mod Copies
 pub mod Unescaping

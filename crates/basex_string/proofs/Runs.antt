@@ -1,4 +1,5 @@
 -- Runs of plain bytes: how they are found, and what the definitions make of them.
+use Rattle.basex_string.specs.Answers.{string_there}
 use mathlib.Core.Path.{◌≡◌, refl, subst, sym, ap, ◌∙◌}
 use mathlib.Core.List.{List, [], ◌∷◌, ◌++◌}
 use mathlib.Core.Bool.{Bool, true, false}
@@ -6,7 +7,8 @@ use Prim.Native.Nat.{ℕ, zero, suc, ◌+◌, ◌-◌, ◌≤◌, ◌<◌}
 use native.Mathlib.Omega.{arith}
 use lib.Dec.{leb, eqb}
 use lib.ListN.{length, take, drop, get_or, length-append, length-drop, drop_of_length-le}
-use lib.Seq.{drop-drop, get_or-drop, length-take-le}
+use lib.Seq.{drop-drop, length-take-le}
+use Rattle.std.proofs.lemmas.List.{get_or-take}
 use borrow.Author.Tests.{le-leb, lt-leb, leb-true, leb-false, ne_eqb}
 use Rattle.wire.specs.Bytes.{if}
 use Rattle.basex_string.specs.Strings.{special, string}
@@ -14,7 +16,6 @@ use Rattle.wire.specs.Fields.{Got}
 use Rattle.basex_string.specs.Scan.{push, scan, reading}
 use Rattle.basex_string.specs.inner.Runs.{run}
 use Rattle.basex_string.specs.inner.Storing.{text_read}
-use Rattle.basex_string.specs.declared.StringAt.TheVariants as string_at
 use Rattle.basex_string.proofs.Steps.{here}
 use Rattle.basex_string.proofs.Scans.{seen}
 
@@ -58,26 +59,23 @@ run-within (b ∷ l) = by (special b) (run-within l)
     by true h = omega arith
     by false h = omega arith
 
--- finding it: `plain_block` looks at byte i of those from `at` on
-module _ (s : List ℕ) (at i : ℕ) (p : Bool) (h : at + i < length s) (e : p ≡ leb i (run (drop at s))) where
-  pub block_special : special (get_or s (at + i) 0) ≡ true → false ≡ leb (i + 1) (run (drop at s))
+-- finding it: `plain_block` looks at byte i of the sixteen in front of l
+module _ (l : List ℕ) (i : ℕ) (p : Bool) (few : i < 16) (h : i < length l) (e : p ≡ leb i (run l)) where
+  pub block_special : special (get_or (take 16 l) i 0) ≡ true → false ≡ leb (i + 1) (run l)
   block_special g =
-      let z = run_past (drop at s) i (ap special (get_or-drop at s i 0) ∙ g) in
-      sym (lt-leb (i + 1) (run (drop at s)) (omega arith))
+      let z = run_past l i (ap special (sym (get_or-take 16 l i 0 few)) ∙ g) in
+      sym (lt-leb (i + 1) (run l) (omega arith))
 
-  pub block_plain : special (get_or s (at + i) 0) ≡ false → p ≡ leb (i + 1) (run (drop at s))
-  block_plain g = by (leb i (run (drop at s))) refl
+  pub block_plain : special (get_or (take 16 l) i 0) ≡ false → p ≡ leb (i + 1) (run l)
+  block_plain g = by (leb i (run l)) refl
     where
-      l : length (drop at s) ≡ length s - at
-      l = length-drop at s
-
-      by : (t : Bool) → leb i (run (drop at s)) ≡ t → p ≡ leb (i + 1) (run (drop at s))
+      by : (t : Bool) → leb i (run l) ≡ t → p ≡ leb (i + 1) (run l)
       by true q =
-          let z = run_on (drop at s) i (omega (arith, l)) (ap special (get_or-drop at s i 0) ∙ g) (leb-true _ _ q) in
-          e ∙ q ∙ sym (le-leb (i + 1) (run (drop at s)) (omega arith))
+          let z = run_on l i h (ap special (sym (get_or-take 16 l i 0 few)) ∙ g) (leb-true _ _ q) in
+          e ∙ q ∙ sym (le-leb (i + 1) (run l) (omega arith))
       by false q =
-          let z = leb-false i (run (drop at s)) q in
-          e ∙ q ∙ sym (lt-leb (i + 1) (run (drop at s)) (omega arith))
+          let z = leb-false i (run l) q in
+          e ∙ q ∙ sym (lt-leb (i + 1) (run l) (omega arith))
 
 pub block_none : (n : ℕ) → true ≡ leb 0 n
 block_none n = sym (le-leb 0 n (omega arith))
@@ -161,7 +159,7 @@ seen_pushes n len r (Got.refused q) = refl
 seen_pushes n len r (Got.got s rest) =
     let l = length-append r s in
     let e : len + length (r ++ s) ≡ len + length r + length s = omega arith in
-    ap (λ (m : ℕ). string_at.At m (n - length rest)) e
+    ap (λ (m : ℕ). string_there m (n - length rest)) e
 
 text_pushes : (r : List ℕ) (x : Got (List ℕ)) → 0 < length (text_read (pushes r x)) → text_read (pushes r x) ≡ r ++ text_read x
 text_pushes r (Got.refused q) h = absurd (omega arith)

@@ -1,4 +1,5 @@
 -- One step of reading a string: what stands at a place, and what is read of what follows.
+use Rattle.std.specs.Prelude.{Result, Ok, Err}
 use mathlib.Core.Path.{◌≡◌, refl, subst, sym, ap, ◌∙◌}
 use mathlib.Core.List.{List, [], ◌∷◌}
 use mathlib.Core.Bool.{Bool, true, false, not}
@@ -9,7 +10,6 @@ use lib.ListN.{length, drop, get_or, drop_of_length-le, length-drop}
 use borrow.Author.Tests.{lt-ltb, le-ltb, eq-eqb, ltb-true, ltb-false}
 use Rattle.wire.specs.Bytes.{if, splice}
 use Rattle.wire.specs.Call.{in_room, Gives}
-use Rattle.wire.specs.declared.Counted.TheVariants.{Count, Refused}
 use Rattle.wire.specs.declared.Refusal.{Refusal}
 use Rattle.wire.specs.declared.Refusal.TheVariants.{MoreBytes, BadEscape}
 use Rattle.wire.proofs.Call.{refused-short, counted-there}
@@ -17,27 +17,27 @@ use Rattle.wire.proofs.Splices.{put_at-fits, put_at_not}
 use Rattle.basex_string.specs.Strings.{special}
 use Rattle.wire.specs.Fields.{Got}
 use Rattle.basex_string.specs.Scan.{push, scan, reading}
-use Rattle.basex_string.specs.Answers.{located, decoded, output_read}
+use Rattle.basex_string.specs.Answers.{string_there, located, decoded, output_read}
 use Rattle.basex_string.specs.inner.Storing.{text_read}
 use Rattle.basex_string.specs.declared.StringAt.{StringAt}
-use Rattle.basex_string.specs.declared.StringAt.TheVariants as string_at
+use Rattle.basex_string.proofs.Handed.{ok-same}
 use Rattle.basex_string.proofs.Steps.{here}
 
 -- the answer when len bytes of the string were read before
-abbrev pub seen : ℕ → ℕ → Got (List ℕ) → StringAt
-seen n len (Got.refused r) = string_at.Refused r
-seen n len (Got.got s rest) = string_at.At (len + length s) (n - length rest)
+abbrev pub seen : ℕ → ℕ → Got (List ℕ) → Result StringAt Refusal
+seen n len (Got.refused r) = Err r
+seen n len (Got.got s rest) = string_there (len + length s) (n - length rest)
 
 pub seen_none : (n : ℕ) (x : Got (List ℕ)) → located n x ≡ seen n 0 x
 seen_none n (Got.refused r) = refl
-seen_none n (Got.got s rest) = let e : length s ≡ 0 + length s = omega arith in ap (λ (m : ℕ). string_at.At m (n - length rest)) e
+seen_none n (Got.got s rest) = let e : length s ≡ 0 + length s = omega arith in ap (λ (m : ℕ). string_there m (n - length rest)) e
 
 pub seen_push : (n len b : ℕ) (x : Got (List ℕ)) → seen n len (push b x) ≡ seen n (len + 1) x
 seen_push n len b (Got.refused r) = refl
-seen_push n len b (Got.got s rest) = let e : len + suc (length s) ≡ len + 1 + length s = omega arith in ap (λ (m : ℕ). string_at.At m (n - length rest)) e
+seen_push n len b (Got.got s rest) = let e : len + suc (length s) ≡ len + 1 + length s = omega arith in ap (λ (m : ℕ). string_there m (n - length rest)) e
 
 -- the place behind the 00 at i
-pub seen_at : (s : List ℕ) (len i : ℕ) → i < length s → seen (length s) len (Got.got [] (drop (i + 1) s)) ≡ string_at.At len (i + 1)
+pub seen_at : (s : List ℕ) (len i : ℕ) → i < length s → seen (length s) len (Got.got [] (drop (i + 1) s)) ≡ string_there len (i + 1)
 seen_at s len i h =
     let e : len + 0 ≡ len = omega arith in
     let l = length-drop (i + 1) s in
@@ -139,30 +139,30 @@ module _ (s : List ℕ) (i : ℕ) (h : 0 < length (text_read (reading (drop i s)
 -- what judging a string answered decides what decoding it answers and leaves
 module _ (n to : ℕ) (out : List ℕ) where
   -- a contract of decoding
-  abbrev pub Decodes : Got (List ℕ) → StringAt → List ℕ → Type 0
+  abbrev pub Decodes : Got (List ℕ) → Result StringAt Refusal → List ℕ → Type 0
   Decodes x = Gives (decoded n (length out) to x) (output_read (λ s. s) out to x)
 
-  pub refused-decoded : {r : Refusal} (x : Got (List ℕ)) → located n x ≡ string_at.Refused r → Decodes x (string_at.Refused r) out
+  pub refused-decoded : {r : Refusal} (x : Got (List ℕ)) → located n x ≡ Err r → Decodes x (Err r) out
   refused-decoded (Got.refused q) e = record { answers = sym e; leaves = refl }
   refused-decoded (Got.got s rest) e = let z : ◌≡◌ {A = ℕ} 0 1 = cc in absurd (omega arith)
 
-  pub cramped_decoded : {len next : ℕ} {r : Refusal} (x : Got (List ℕ)) → located n x ≡ string_at.At len next → in_room (length out) to len ≡ Refused r
-      → Decodes x (string_at.Refused r) out
+  pub cramped_decoded : {found : StringAt} {r : Refusal} (x : Got (List ℕ)) → located n x ≡ Ok found → in_room (length out) to found.len ≡ Err r
+      → Decodes x (Err r) out
   cramped_decoded (Got.refused q) e h = let z : ◌≡◌ {A = ℕ} 0 1 = cc in absurd (omega arith)
-  cramped_decoded {len} {next} {r} (Got.got s rest) e h =
-      let a : length s ≡ len = cc in
-      let z = refused-short (length out) to len r h in
+  cramped_decoded {found} {r} (Got.got s rest) e h =
+      let a : length s ≡ found.len = ap (λ (p : StringAt). p.len) (ok-same e) in
+      let z = refused-short (length out) to found.len r h in
       let l = z.1 in
-      record { answers = rw (lt-ltb (length out) (to + length s) (omega arith)) (ap string_at.Refused z.0); leaves = sym (put_at_not out to s (omega arith)) }
+      record { answers = rw (lt-ltb (length out) (to + length s) (omega arith)) (ap Err z.0); leaves = sym (put_at_not out to s (omega arith)) }
 
-  pub stored-decoded : {len next m : ℕ} {after : List ℕ} (x : Got (List ℕ)) → located n x ≡ string_at.At len next → in_room (length out) to len ≡ Count m
-      → after ≡ splice out to (text_read x) → Decodes x (string_at.At len next) after
+  pub stored-decoded : {found : StringAt} {m : ℕ} {after : List ℕ} (x : Got (List ℕ)) → located n x ≡ Ok found → in_room (length out) to found.len ≡ Ok m
+      → after ≡ splice out to (text_read x) → Decodes x (Ok found) after
   stored-decoded (Got.refused q) e h p = let z : ◌≡◌ {A = ℕ} 0 1 = cc in absurd (omega arith)
-  stored-decoded {len} {next} {m} (Got.got s rest) e h p =
-      let a : length s ≡ len = cc in
-      let l = (counted-there (length out) to len m h).1 in
+  stored-decoded {found} {m} (Got.got s rest) e h p =
+      let a : length s ≡ found.len = ap (λ (p : StringAt). p.len) (ok-same e) in
+      let l = (counted-there (length out) to found.len m h).1 in
       record { answers = rw (le-ltb (length out) (to + length s) (omega arith)) (sym e); leaves = p ∙ sym (put_at-fits out to s (omega arith)) }
 
-pub located-length : (n : ℕ) {len next : ℕ} (x : Got (List ℕ)) → located n x ≡ string_at.At len next → len ≡ length (text_read x)
+pub located-length : (n : ℕ) {found : StringAt} (x : Got (List ℕ)) → located n x ≡ Ok found → found.len ≡ length (text_read x)
 located-length n (Got.refused q) e = cc
-located-length n (Got.got s rest) e = cc
+located-length n (Got.got s rest) e = ap (λ (p : StringAt). p.len) (sym (ok-same e))

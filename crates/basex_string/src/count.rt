@@ -3,7 +3,6 @@ ghost use Rattle.std.specs.Prelude.{◌≡◌, ◌≤◌, length};
 ghost use Rattle.basex_string.specs.inner.Runs.{specials};
 
 use crate::is_special;
-use wire::least;
 
 // A count that fits a byte: the compiler then counts sixteen bytes at once.
 fn count_few(part: &[u8]) -> usize
@@ -11,12 +10,10 @@ fn count_few(part: &[u8]) -> usize
     ensures { result ≡ specials part.now }
 {
     let mut n: u8 = 0;
-    let mut i: usize = 0;
-    while i < part.len() {
-        if is_special(part[i]) {
+    for b in part {
+        if is_special(*b) {
             n += 1;
         }
-        i += 1;
     }
     n as usize
 }
@@ -26,8 +23,9 @@ pub fn count_specials(text: &[u8]) -> usize
 {
     let mut n: usize = 0;
     let mut i: usize = 0;
+    // No `chunks`: with it the proof did not close.
     while i < text.len() {
-        let end = i + least(text.len() - i, 128);
+        let end = i + (text.len() - i).min(128);
         n += count_few(&text[i..end]);
         i = end;
     }

@@ -3,7 +3,7 @@
 // `store_judged_text` alone refuses nothing: it is an inner tool for readers that judged first.
 #![tactic(auto)]
 
-ghost use Rattle.std.specs.Prelude.{not, false, ◌≡◌, [], ◌∷◌, ◌++◌, ◌+◌, ◌*◌, ◌≤◌, ◌<◌, min, eqb, leb, length, drop, get_or};
+ghost use Rattle.std.specs.Prelude.{Ok, not, false, ◌≡◌, [], ◌∷◌, ◌++◌, ◌+◌, ◌*◌, ◌≤◌, ◌<◌, min, eqb, leb, length, drop, get_or};
 ghost use Rattle.wire.specs.Bytes.{if, splice};
 ghost use Rattle.wire.specs.Call.{in_room, Gives, Writes};
 ghost use Rattle.basex_string.specs.Strings.{special, string};
@@ -13,16 +13,16 @@ ghost use Rattle.basex_string.specs.inner.Runs.{run, pairs};
 ghost use Rattle.basex_string.specs.inner.Storing.{text_read, Remains, StoredSome};
 
 pub use put::store_judged_text;
-use wire::{Counted, Refusal};
+use wire::Refusal;
 
 mod count;
 mod put;
 
 // How many bytes a string has, decoded, and where the next field starts.
 #[derive(Clone, Copy)]
-pub enum StringAt {
-    At { len: usize, next: usize },
-    Refused(Refusal),
+pub struct StringAt {
+    pub len: usize,
+    pub next: usize,
 }
 
 // Where the next field starts, and where the output is free again.
@@ -36,7 +36,7 @@ pub struct Ends {
 fn is_special(b: u8) -> bool
     ensures { result ≡ special b }
 {
-    if b == 0 { true } else { b == 255 }
+    b == 0 || b == 255
 }
 
 // Whether none of sixteen bytes is special. Every byte is looked at, so that the compiler compares
@@ -46,12 +46,10 @@ fn plain_block(s: &[u8], at: usize) -> bool
     ensures { result ≡ leb 16 (run (drop at s.now)) }
 {
     let mut plain = true;
-    let mut i: usize = 0;
-    while i < 16 {
-        if is_special(s[at + i]) {
+    for b in &s[at..at + 16] {
+        if is_special(*b) {
             plain = false;
         }
-        i += 1;
     }
     plain
 }
@@ -65,12 +63,9 @@ fn skip_blocks(s: &[u8], from: usize) -> usize
     }
     let last = s.len() - 16;
     let mut at = from;
-    while at <= last {
-        if plain_block(s, at) {
-            at += 16;
-        } else {
-            return at;
-        }
+    // No iterator over blocks: where they end is the answer.
+    while at <= last && plain_block(s, at) {
+        at += 16;
     }
     at
 }
@@ -80,14 +75,9 @@ fn few_end(s: &[u8], from: usize) -> usize
     ensures { result ≡ from + min 16 (run (drop from s.now)) }
 {
     let mut at = from;
-    while at < s.len() {
-        if is_special(s[at]) {
-            return at;
-        }
+    // No iterator: where the bytes end is the answer, and the compiler sees that sixteen are the most.
+    while at - from < 16 && at < s.len() && !is_special(s[at]) {
         at += 1;
-        if at - from == 16 {
-            return at;
-        }
     }
     at
 }
@@ -108,19 +98,10 @@ fn pairs_at(s: &[u8], from: usize) -> usize
 {
     let mut n: usize = 0;
     let mut at = from;
-    while 2 <= s.len() - at {
-        if s[at] != 255 {
-            return n;
-        }
-        if is_special(s[at + 1]) {
-            n += 1;
-            at += 2;
-        } else {
-            return n;
-        }
-        if n == 8 {
-            return n;
-        }
+    // No iterator over pairs: the second byte is looked at only behind an FF.
+    while n < 8 && 2 <= s.len() - at && s[at] == 255 && is_special(s[at + 1]) {
+        n += 1;
+        at += 2;
     }
     n
 }
@@ -140,16 +121,13 @@ fn store_few(out: &mut [u8], at: usize, part: &[u8]) -> usize
         × (out.new ≡ splice out.old at (string part.now)) }
 {
     let mut to = at;
-    let mut i: usize = 0;
-    while i < part.len() {
-        let b = part[i];
+    for b in part {
         out[to] = 255;
-        if is_special(b) {
+        if is_special(*b) {
             to += 1;
         }
-        out[to] = b;
+        out[to] = *b;
         to += 1;
-        i += 1;
     }
     out[to] = 0;
     to
@@ -163,16 +141,16 @@ fn store_string(out: &mut [u8], at: usize, text: &[u8])
 {
     let mut to = at;
     let mut i: usize = 0;
+    // No iterator over blocks: what is left behind the last one ends the string, even where it is empty.
     while 16 <= text.len() - i {
         let end = i + 16;
         if plain_block(text, i) {
             wire::put_bytes(out, to, &text[i..end]);
             to += 16;
-            i = end;
         } else {
             to = store_few(out, to, &text[i..end]);
-            i = end;
         }
+        i = end;
     }
     store_few(out, to, &text[i..]);
 }
@@ -187,58 +165,55 @@ fn store_plain(out: &mut [u8], at: usize, text: &[u8])
 }
 
 // The text as a string, from `at` on.
-pub fn write_string(out: &mut [u8], at: usize, text: &[u8]) -> Counted
+pub fn write_string(out: &mut [u8], at: usize, text: &[u8]) -> Result<usize, Refusal>
     ensures { Writes (in_room (length out.old) at (length (string text.now)))
         out.old at (string text.now) result out.new }
 {
-    let n = string_len(text);
-    if !wire::has_room(out.len(), at, n) {
-        return Counted::Refused(Refusal::NoRoom);
-    }
+    let n = wire::in_room(out.len(), at, string_len(text))?;
     if n == text.len() + 1 {
         store_plain(out, at, text);
-        return Counted::Count(n);
+    } else {
+        store_string(out, at, text);
     }
-    store_string(out, at, text);
-    Counted::Count(n)
+    Ok(n)
 }
 
 // The string that starts at `at`, judged; nothing is stored.
-pub fn string_at(bytes: &[u8], at: usize) -> StringAt
+pub fn string_at(bytes: &[u8], at: usize) -> Result<StringAt, Refusal>
     ensures { result ≡ located (length bytes.now) (reading (drop at bytes.now)) }
 {
     let mut len: usize = 0;
     let mut i = at;
+    // No iterator: the bytes say how far a step goes.
     while i < bytes.len() {
-        let b = bytes[i];
-        if b == 0 {
-            return StringAt::At { len, next: i + 1 };
-        }
-        if b == 255 {
-            if bytes.len() - i < 2 {
-                return StringAt::Refused(Refusal::MoreBytes);
-            }
-            if is_special(bytes[i + 1]) {
+        match bytes[i] {
+            0 => return Ok(StringAt { len, next: i + 1 }),
+            255 => {
+                if bytes.len() - i < 2 {
+                    return Err(Refusal::MoreBytes);
+                }
+                if !is_special(bytes[i + 1]) {
+                    return Err(Refusal::BadEscape);
+                }
                 let pairs = 1 + pairs_at(bytes, i + 2);
                 len += pairs;
                 i += 2 * pairs;
-            } else {
-                return StringAt::Refused(Refusal::BadEscape);
             }
-        } else {
-            let end = run_end(bytes, i);
-            len += end - i;
-            i = end;
+            _ => {
+                let end = run_end(bytes, i);
+                len += end - i;
+                i = end;
+            }
         }
     }
-    StringAt::Refused(Refusal::MoreBytes)
+    Err(Refusal::MoreBytes)
 }
 
 // Whether the byte is an FF that escapes the next one.
 fn opens(b: u8, escaped: bool) -> bool
     ensures { result ≡ if (eqb b 255) (not escaped) false }
 {
-    if b == 255 { !escaped } else { false }
+    b == 255 && !escaped
 }
 
 // How many bytes of the text were stored, and where the next ones stand.
@@ -257,6 +232,7 @@ fn put_few(bytes: &[u8], from: usize, out: &mut [u8], to: usize, most: usize) ->
     let mut count: usize = 0;
     let mut i = from;
     let mut escaped = false;
+    // No iterator: the bytes and the text are passed at a pace of their own.
     while count < most {
         let b = bytes[i];
         out[to + count] = b;
@@ -282,15 +258,10 @@ fn put_pairs(bytes: &[u8], from: usize, out: &mut [u8], to: usize, most: usize) 
         × (from + 2 * result ≤ length bytes.now) }
 {
     let mut n: usize = 0;
-    while n < most {
-        if bytes[from + 2 * n] != 255 {
-            return n;
-        }
+    // No iterator: of two bytes read one is stored.
+    while n < most && n < 8 && bytes[from + 2 * n] == 255 {
         out[to + n] = bytes[from + 2 * n + 1];
         n += 1;
-        if n == 8 {
-            return n;
-        }
     }
     n
 }
@@ -302,6 +273,7 @@ fn store_escaped(bytes: &[u8], at: usize, out: &mut [u8], to: usize, len: usize)
 {
     let mut i = at;
     let mut n: usize = 0;
+    // No iterator: the bytes say how far a step goes.
     while n < len {
         if bytes[i] == 255 {
             let pairs = put_pairs(bytes, i, out, to + n, len - n);
@@ -323,31 +295,25 @@ fn store_escaped(bytes: &[u8], at: usize, out: &mut [u8], to: usize, len: usize)
 }
 
 // A string that was judged. One with no escape is its text and the 00.
-fn store_text(bytes: &[u8], at: usize, out: &mut [u8], to: usize, len: usize, next: usize)
-    requires { (located (length bytes.now) (reading (drop at bytes.now)) ≡ StringAt.At len next) × (to + len ≤ length out.old) }
+fn store_text(bytes: &[u8], at: usize, out: &mut [u8], to: usize, found: StringAt)
+    requires { (located (length bytes.now) (reading (drop at bytes.now)) ≡ Ok found) × (to + found.len ≤ length out.old) }
     ensures { out.new ≡ splice out.old to (text_read (reading (drop at bytes.now))) }
 {
-    let end = next - 1;
-    if end - at == len {
+    let end = found.next - 1;
+    if end - at == found.len {
         wire::put_bytes(out, to, &bytes[at..end]);
     } else {
-        store_escaped(bytes, at, out, to, len);
+        store_escaped(bytes, at, out, to, found.len);
     }
 }
 
 // The string that starts at `at`, put into the output from `to` on.
-pub fn decode(bytes: &[u8], at: usize, out: &mut [u8], to: usize) -> StringAt
+pub fn decode(bytes: &[u8], at: usize, out: &mut [u8], to: usize) -> Result<StringAt, Refusal>
     ensures { Gives (decoded (length bytes.now) (length out.old) to (reading (drop at bytes.now)))
         (output_read (λ s. s) out.old to (reading (drop at bytes.now))) result out.new }
 {
-    match string_at(bytes, at) {
-        StringAt::Refused(r) => StringAt::Refused(r),
-        StringAt::At { len, next } => match wire::in_room(out.len(), to, len) {
-            Counted::Refused(r) => StringAt::Refused(r),
-            Counted::Count(_) => {
-                store_text(bytes, at, out, to, len, next);
-                StringAt::At { len, next }
-            }
-        },
-    }
+    let found = string_at(bytes, at)?;
+    wire::in_room(out.len(), to, found.len)?;
+    store_text(bytes, at, out, to, found);
+    Ok(found)
 }

@@ -7,8 +7,9 @@ ghost use Rattle.wire.specs.Call.{Gives};
 ghost use Rattle.basex_string.specs.inner.Runs.{run};
 ghost use Rattle.basex_string.specs.Unescaping.{unescaped, ended};
 
+// `bytes`, `from`, `out` and `to` apart, here and in lib.rt: both places move on by themselves, and a
+// struct of the four would be taken apart at each call.
 use crate::{Ends, is_special, plain_block};
-use wire::least;
 
 // Blocks of plain bytes, moved as they are met, `most` bytes at most; the answer is how many bytes.
 fn put_blocks(bytes: &[u8], from: usize, out: &mut [u8], to: usize, most: usize) -> usize
@@ -17,15 +18,10 @@ fn put_blocks(bytes: &[u8], from: usize, out: &mut [u8], to: usize, most: usize)
         × (out.new ≡ splice out.old to (take result (drop from bytes.now))) }
 {
     let mut k: usize = 0;
-    while 16 <= most - k {
-        let i = from + k;
-        if plain_block(bytes, i) {
-            let end = i + 16;
-            wire::put_bytes(out, to + k, &bytes[i..end]);
-            k += 16;
-        } else {
-            return k;
-        }
+    // No iterator over blocks: where they end is the answer.
+    while 16 <= most - k && plain_block(bytes, from + k) {
+        wire::put_bytes(out, to + k, &bytes[from + k..from + k + 16]);
+        k += 16;
     }
     k
 }
@@ -37,12 +33,9 @@ fn put_singles(bytes: &[u8], from: usize, out: &mut [u8], to: usize, most: usize
         (splice out.old to (take result (drop from bytes.now))) result out.new }
 {
     let mut k: usize = 0;
-    while k < most {
-        let b = bytes[from + k];
-        if is_special(b) {
-            return k;
-        }
-        out[to + k] = b;
+    // No iterator over two slices: how many bytes were stored is the answer.
+    while k < most && !is_special(bytes[from + k]) {
+        out[to + k] = bytes[from + k];
         k += 1;
     }
     k
@@ -54,7 +47,7 @@ fn put_run(bytes: &[u8], from: usize, out: &mut [u8], to: usize) -> usize
     ensures { Gives (min (length out.old - to) (run (drop from bytes.now)))
         (splice out.old to (take result (drop from bytes.now))) result out.new }
 {
-    let most = least(bytes.len() - from, out.len() - to);
+    let most = (bytes.len() - from).min(out.len() - to);
     let blocks = put_blocks(bytes, from, out, to, most);
     blocks + put_singles(bytes, from + blocks, out, to + blocks, most - blocks)
 }
@@ -67,6 +60,7 @@ pub fn store_judged_text(bytes: &[u8], at: usize, out: &mut [u8], to: usize) -> 
 {
     let mut i = at;
     let mut n = to;
+    // No iterator: the bytes say how far a step goes.
     while i < bytes.len() {
         let b = bytes[i];
         if b == 0 {

@@ -9,70 +9,57 @@
 // one.
 #![tactic(auto)]
 
-mod forms;
 mod message;
 mod replay;
 mod text;
 
+use std::io::{self, Write};
+use text_lines::answers::{Answers, each_line};
 use text_lines::cut::{behind, front};
 use text_lines::input::asks;
-use text_lines::print::{decimal, say};
-use wire::first;
 
-// The major version that a word names; 0 where it names none.
-fn version_of(word: &[u8]) -> u8 {
-    if word.len() != 1 {
-        return 0;
-    }
-    let b = word[0];
-    match b {
-        b'1'..=b'4' => b - b'0',
-        _ => 0,
+// The major version that a word names.
+fn version_of(word: &[u8]) -> Option<u8> {
+    match word {
+        [b @ b'1'..=b'4'] => Some(*b - b'0'),
+        _ => None,
     }
 }
 
-fn answer(line: &[u8]) {
+fn answered<W: Write>(to: &mut W, line: &[u8]) -> io::Result<()> {
     let all = front(line, b'#');
-    let version = version_of(front(all, b' '));
     let words = behind(all, b' ');
-    if version == 0 || !replay::readable(words) {
-        say(line);
-        say(b" ?");
-        return;
-    }
-    decimal(version as u64);
-    say(b":");
-    replay::conversation(version, words);
-    if all.len() < line.len() {
-        say(b" #");
-        say(behind(line, b'#'));
+    match version_of(front(all, b' ')) {
+        Some(version) if replay::readable(words) => {
+            write!(to, "{version}:")?;
+            replay::conversation(to, version, words)?;
+            if all.len() < line.len() {
+                to.write_all(b" #")?;
+                to.write_all(behind(line, b'#'))?;
+            }
+            Ok(())
+        }
+        _ => {
+            to.write_all(line)?;
+            to.write_all(b" ?")
+        }
     }
 }
 
-fn show(line: &[u8]) {
-    if asks(line) {
-        answer(line);
-    } else {
-        say(line);
+#[derive(Drop)]
+struct Conversations;
+
+impl Answers for Conversations {
+    fn answer<W: Write>(&mut self, to: &mut W, line: &[u8]) -> io::Result<()> {
+        if asks(line) {
+            answered(to, line)?;
+        } else {
+            to.write_all(line)?;
+        }
+        to.write_all(b"\n")
     }
-    say(b"\n");
 }
 
-// Whether there was one more line.
-fn next_line() -> bool {
-    let mut buffer = io::buffer();
-    let n = text_lines::input::line(&mut buffer);
-    if n == 0 {
-        return false;
-    }
-    show(front(first(&buffer, n), b'\n'));
-    true
-}
-
-// A proved loop has to end: this one counts down from a number that no input uses up.
-fn main() {
-    let mut turns = u64::MAX;
-    while turns > 0 && next_line() {
-        turns -= 1;
-    }
+fn main(rt: HostRuntime) -> io::Result<()> {
+    each_line(&mut rt.reader(), &mut io::writer(&rt), &mut Conversations)
 }

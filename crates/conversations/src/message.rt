@@ -1,13 +1,11 @@
 // A small well formed message of each instruction, and both forms of the step on it.
-use crate::forms::agree;
-use sedna::{Found, Shape};
-use sedna_read::Reading;
+use sedna::Shape;
 use session::Session;
-use text_lines::print::{decimal, say};
-use wire::{Counted, first};
+use std::io::{self, Write};
+use wire::{Refusal, first};
 
 // Writes the message; a session's parameters name the version.
-fn write(out: &mut [u8], instruction: u32, shape: Shape, version: u8) -> Counted {
+fn write(out: &mut [u8], instruction: u32, shape: Shape, version: u8) -> Result<usize, Refusal> {
     match shape {
         Shape::Empty => sedna_write::write_empty(out, instruction),
         Shape::Session => sedna_write::write_session(out, instruction, version, 0, b"u", b"d"),
@@ -22,26 +20,30 @@ fn write(out: &mut [u8], instruction: u32, shape: Shape, version: u8) -> Counted
 // Offers an instruction from the side that sends it to both forms of the step, and prints it with the
 // refusal, if any, and whether the forms differ. One that the table lacks does not get here:
 // `replay::readable` is asked first.
-pub fn offer(session: Session, version: u8, instruction: u32) -> Session {
+pub fn offer<W: Write>(
+    to: &mut W,
+    session: Session,
+    version: u8,
+    instruction: u32,
+) -> io::Result<Session> {
+    // An array: no heap, as in the library.
     let mut space = [0u8; 64];
-    let Found::Known(side, shape) = sedna::find(instruction) else {
-        return session;
+    let Some((side, shape)) = sedna::find(instruction) else {
+        return Ok(session);
     };
-    let Counted::Count(n) = write(&mut space, instruction, shape, version) else {
-        return session;
+    let Ok(n) = write(&mut space, instruction, shape, version) else {
+        return Ok(session);
     };
     let bytes = first(&space, n);
     let after = session::step(session, side, bytes);
     let kept = session_lent::step_kept(session, side, bytes);
-    say(b" ");
-    decimal(instruction as u64);
-    let answer = after.answer;
-    if let Reading::Refused(r) = answer {
-        say(b"!");
-        decimal(wire::number(r) as u64);
+    write!(to, " {instruction}")?;
+    if let Err(r) = after.answer {
+        let number = r.number();
+        write!(to, "!{number}")?;
     }
-    if !agree(after, kept) {
-        say(b" ?forms");
+    if after != kept {
+        to.write_all(b" ?forms")?;
     }
-    after.session
+    Ok(after.session)
 }

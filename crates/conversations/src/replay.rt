@@ -1,67 +1,74 @@
 // The words of a line, replayed from a fresh session.
 use crate::message::offer;
 use crate::text::instruction;
-use sedna::{Found, names};
+use sedna::names;
 use session::Session;
-use text_lines::cut::{front, same};
-use text_lines::print::say;
+use std::io::{self, Write};
+use text_lines::cut::Parts;
 
-fn start(fresh: Session, version: u8) -> Session {
-    let s = offer(fresh, version, names::START_UP);
-    let s = offer(s, version, names::SEND_SESSION_PARAMETERS);
-    let s = offer(s, version, names::SESSION_PARAMETERS);
-    let s = offer(s, version, names::SEND_AUTH_PARAMETERS);
-    let s = offer(s, version, names::AUTHENTICATION_PARAMETERS);
-    offer(s, version, names::AUTHENTICATION_OK)
+// The six messages of a good start.
+const START: [u32; 6] = [
+    names::START_UP,
+    names::SEND_SESSION_PARAMETERS,
+    names::SESSION_PARAMETERS,
+    names::SEND_AUTH_PARAMETERS,
+    names::AUTHENTICATION_PARAMETERS,
+    names::AUTHENTICATION_OK,
+];
+
+// Offers one after another.
+fn offer_all<W: Write>(
+    to: &mut W,
+    session: Session,
+    version: u8,
+    instructions: &[u32],
+) -> io::Result<Session> {
+    let mut session = session;
+    for instruction in instructions {
+        session = offer(to, session, version, *instruction)?;
+    }
+    Ok(session)
 }
 
 // Offers what a word stands for.
-fn take(session: Session, version: u8, word: &[u8]) -> Session {
-    if same(word, b"start") {
-        return start(session, version);
+fn take<W: Write>(to: &mut W, session: Session, version: u8, word: &[u8]) -> io::Result<Session> {
+    if word == b"start".as_slice() {
+        return offer_all(to, session, version, &START);
     }
-    if same(word, b"in") {
-        let begun = offer(start(session, version), version, names::BEGIN);
-        return offer(begun, version, names::BEGIN_OK);
+    if word == b"in".as_slice() {
+        let started = offer_all(to, session, version, &START)?;
+        return offer_all(to, started, version, &[names::BEGIN, names::BEGIN_OK]);
     }
-    offer(session, version, instruction(word))
+    match instruction(word) {
+        Some(instruction) => offer(to, session, version, instruction),
+        None => Ok(session),
+    }
 }
 
 fn known(word: &[u8]) -> bool {
-    if same(word, b"start") || same(word, b"in") {
+    if word == b"start".as_slice() || word == b"in".as_slice() {
         return true;
     }
-    match sedna::find(instruction(word)) {
-        Found::Unknown => false,
-        Found::Known(_, _) => true,
+    match instruction(word) {
+        Some(instruction) => sedna::find(instruction).is_some(),
+        None => false,
     }
 }
 
 // Whether every word is known.
 pub fn readable(words: &[u8]) -> bool {
-    let mut at = 0;
-    while at < words.len() {
-        let word = front(&words[at..], b' ');
-        if !known(word) {
-            return false;
-        }
-        at += word.len() + 1;
-    }
-    true
+    Parts::of(words, b' ').all(known)
 }
 
 // Offers all that the words stand for, and prints it with how the session ends.
-pub fn conversation(version: u8, words: &[u8]) {
+pub fn conversation<W: Write>(to: &mut W, version: u8, words: &[u8]) -> io::Result<()> {
     let mut session = Session::FRESH;
-    let mut at = 0;
-    while at < words.len() {
-        let word = front(&words[at..], b' ');
-        session = take(session, version, word);
-        at += word.len() + 1;
+    for word in Parts::of(words, b' ') {
+        session = take(to, session, version, word)?;
     }
-    if session::closed(session) {
-        say(b" closed");
+    to.write_all(if session::closed(session) {
+        b" closed"
     } else {
-        say(b" open");
-    }
+        b" open"
+    })
 }

@@ -1,13 +1,11 @@
 // A text cut, written, read back and joined.
 use crate::hand::join_said;
 use crate::join::opened;
-use crate::text::{MOST, number, refused, say_refusal, say_value, value};
+use crate::text::{MOST, number, refusal, value};
 use parts_join::{Assembly, Open};
-use sedna::Found;
-use sedna_read::Reading;
-use text_lines::cut::{behind, front, same};
-use text_lines::print::say;
-use wire::{Counted, first};
+use std::io::{self, Write};
+use text_lines::cut::{behind, front};
+use wire::{Refusal, first};
 
 // What is cut; a URL by its length.
 #[derive(Clone, Copy)]
@@ -19,22 +17,29 @@ enum Cut {
 }
 
 // How many messages n bytes are cut into.
-fn count(cut: Cut, n: usize) -> Counted {
+fn count(cut: Cut, n: usize) -> Result<usize, Refusal> {
     match cut {
-        Cut::Statement { .. } => Counted::Count(parts_cut::statement_parts(n)),
-        Cut::Item => Counted::Count(parts_cut::item_parts(n)),
-        Cut::Typed { .. } => Counted::Count(parts_cut::typed_item_parts(n)),
+        Cut::Statement { .. } => Ok(parts_cut::statement_parts(n)),
+        Cut::Item => Ok(parts_cut::item_parts(n)),
+        Cut::Typed { .. } => Ok(parts_cut::typed_item_parts(n)),
         Cut::WithUrl { url, .. } => parts_cut::typed_item_url_parts(n, url),
     }
 }
 
-fn write_with_url(out: &mut [u8], class: u8, kind: u8, n: usize, text: &[u8], k: usize) -> Counted {
+fn write_with_url(
+    out: &mut [u8],
+    class: u8,
+    kind: u8,
+    n: usize,
+    text: &[u8],
+    k: usize,
+) -> Result<usize, Refusal> {
     let urls = [b'u'; MOST];
     parts_cut::write_typed_item_url_part(out, class, kind, first(&urls, n), text, k)
 }
 
 // Writes part k.
-fn write(out: &mut [u8], cut: Cut, text: &[u8], k: usize) -> Counted {
+fn write(out: &mut [u8], cut: Cut, text: &[u8], k: usize) -> Result<usize, Refusal> {
     match cut {
         Cut::Statement { format } => parts_cut::write_statement_part(out, format, text, k),
         Cut::Item => parts_cut::write_item_part(out, text, k),
@@ -44,91 +49,128 @@ fn write(out: &mut [u8], cut: Cut, text: &[u8], k: usize) -> Counted {
 }
 
 // Reads a message back as from its sender, and joins it.
-fn joined(a: Assembly, buffer: &mut [u8], bytes: &[u8], text: &[u8]) -> Assembly {
+fn joined<W: Write>(
+    to: &mut W,
+    a: Assembly,
+    buffer: &mut [u8],
+    bytes: &[u8],
+    text: &[u8],
+) -> io::Result<Assembly> {
     let instruction = wire::get_int(bytes, 0);
-    say_value(b' ', instruction as usize);
-    say_value(b':', wire::get_int(bytes, 4) as usize);
-    let Found::Known(side, _) = sedna::find(instruction) else {
-        return a;
+    let body = wire::get_int(bytes, 4);
+    write!(to, " {instruction}:{body}")?;
+    let Some((side, _)) = sedna::find(instruction) else {
+        return Ok(a);
     };
     match sedna_read::read(side, bytes) {
-        Reading::Refused(r) => refused(a, r),
-        Reading::Message { places, .. } => {
-            join_said(a, buffer, instruction, places, bytes, text)
+        Ok(reading) => join_said(to, a, buffer, instruction, reading.places, bytes, text),
+        Err(r) => {
+            refusal(to, r)?;
+            Ok(a)
         }
     }
 }
 
 // Part k.
-fn part(a: Assembly, buffer: &mut [u8], cut: Cut, text: &[u8], k: usize) -> Assembly {
+fn part<W: Write>(
+    to: &mut W,
+    a: Assembly,
+    buffer: &mut [u8],
+    cut: Cut,
+    text: &[u8],
+    k: usize,
+) -> io::Result<Assembly> {
+    // An array: no heap, as in the library.
     let mut out = [0u8; 10248];
-    say(b";");
+    to.write_all(b";")?;
     match write(&mut out, cut, text, k) {
-        Counted::Refused(r) => refused(a, r),
-        Counted::Count(n) => joined(a, buffer, first(&out, n), text),
+        Ok(n) => joined(to, a, buffer, first(&out, n), text),
+        Err(r) => {
+            refusal(to, r)?;
+            Ok(a)
+        }
     }
 }
 
 // All parts and the one beyond the last; an item's end.
-fn parts(open: Assembly, buffer: &mut [u8], cut: Cut, text: &[u8], count: usize) {
+fn parts<W: Write>(
+    to: &mut W,
+    open: Assembly,
+    buffer: &mut [u8],
+    cut: Cut,
+    text: &[u8],
+    count: usize,
+) -> io::Result<()> {
     let mut a = open;
-    let mut k = 0;
-    while k < count {
-        a = part(a, buffer, cut, text, k);
-        k += 1;
+    for k in 0..count {
+        a = part(to, a, buffer, cut, text, k)?;
     }
-    a = part(a, buffer, cut, text, count);
-    if let Cut::Statement { .. } = cut {
-        return;
+    a = part(to, a, buffer, cut, text, count)?;
+    if !matches!(cut, Cut::Statement { .. }) {
+        to.write_all(b";")?;
+        joined(to, a, buffer, &[0, 0, 1, 114, 0, 0, 0, 0], text)?;
     }
-    say(b";");
-    joined(a, buffer, &[0, 0, 1, 114, 0, 0, 0, 0], text);
+    Ok(())
 }
 
 // The words are LENGTH ROOM. Where the count is refused part 0 is tried, as if beyond the last.
-fn cutting(open: Assembly, cut: Cut, pattern: &[u8], words: &[u8]) {
+fn cutting<W: Write>(
+    to: &mut W,
+    open: Assembly,
+    cut: Cut,
+    pattern: &[u8],
+    words: &[u8],
+) -> io::Result<()> {
     let mut buffer = [0u8; MOST];
     let length = number(front(words, b' '), 32769);
     let room = number(behind(words, b' '), 32769);
     if MOST < length || MOST < room {
-        return say(b" ?");
+        return to.write_all(b" ?");
     }
     let text = first(pattern, length);
-    say(b": parts");
-    let mut n = 0;
-    match count(cut, length) {
-        Counted::Count(k) => {
-            say_value(b' ', k);
-            n = k;
+    to.write_all(b": parts")?;
+    let n = match count(cut, length) {
+        Ok(n) => {
+            write!(to, " {n}")?;
+            n
         }
-        Counted::Refused(r) => say_refusal(r),
-    }
-    parts(open, &mut buffer[0..room], cut, text, n);
+        Err(r) => {
+            refusal(to, r)?;
+            0
+        }
+    };
+    parts(to, open, &mut buffer[0..room], cut, text, n)
 }
 
 // The words are TYPE URL LENGTH ROOM.
-fn typed(open: Assembly, class: u8, pattern: &[u8], words: &[u8]) {
+fn typed<W: Write>(
+    to: &mut W,
+    open: Assembly,
+    class: u8,
+    pattern: &[u8],
+    words: &[u8],
+) -> io::Result<()> {
     let kind = value(front(words, b' '), 255);
     let url = behind(words, b' ');
     let rest = behind(url, b' ');
-    if same(front(url, b' '), b"-") {
-        cutting(open, Cut::Typed { class, kind }, pattern, rest);
-    } else {
-        let url = number(front(url, b' '), 32769);
-        cutting(open, Cut::WithUrl { class, kind, url }, pattern, rest);
+    match front(url, b' ') {
+        [b'-'] => cutting(to, open, Cut::Typed { class, kind }, pattern, rest),
+        word => {
+            let url = number(word, 32769);
+            cutting(to, open, Cut::WithUrl { class, kind, url }, pattern, rest)
+        }
     }
 }
 
 // Cuts what a line tells behind its kind.
-pub fn answered(kind: &[u8], pattern: &[u8], words: &[u8]) {
+pub fn answered<W: Write>(to: &mut W, kind: &[u8], pattern: &[u8], words: &[u8]) -> io::Result<()> {
     let format = value(front(words, b' '), 255);
     let rest = behind(words, b' ');
-    let open = opened(kind);
-    let what = open.what;
-    match what {
-        Open::Nothing => return,
-        Open::Statement => cutting(open, Cut::Statement { format }, pattern, rest),
-        Open::Item => cutting(open, Cut::Item, pattern, words),
-        Open::TypedItem => typed(open, format, pattern, rest),
+    let open = opened(to, kind)?;
+    match open.what {
+        Open::Nothing => Ok(()),
+        Open::Statement => cutting(to, open, Cut::Statement { format }, pattern, rest),
+        Open::Item => cutting(to, open, Cut::Item, pattern, words),
+        Open::TypedItem => typed(to, open, format, pattern, rest),
     }
 }

@@ -1,32 +1,27 @@
 // A message joined, and what it hands over printed.
-ghost use Rattle.std.specs.Prelude.{◌≡◌, length};
+ghost use Rattle.std.specs.Prelude.{◌≡◌, IfOk, length};
 ghost use Rattle.sedna.specs.Message.{message};
 ghost use Rattle.sedna_read.specs.Meaning.{body_in};
 ghost use Rattle.parts_join.specs.Joining.{joined};
 
-use crate::text::say_answer;
-use parts_join::{Assembly, Joined};
+use crate::text;
+use parts_join::Assembly;
 use sedna_read::Places;
+use std::io::{self, Write};
 
 // Prints the answer and whether what was handed over is the text, and goes on with the record.
-fn said(joined: Joined, part: &[u8], text: &[u8]) -> Assembly
-    ensures { result ≡ joined.assembly }
-{
-    let answer = joined.answer;
-    say_answer(answer, part, text);
-    joined.assembly
-}
-
-pub fn join_said(
+pub fn join_said<W: Write>(
+    to: &mut W,
     a: Assembly,
     buffer: &mut [u8],
     instruction: u32,
     places: Places,
     bytes: &[u8],
     text: &[u8],
-) -> Assembly
-    ensures { result ≡ (joined a (length buffer.old) (message instruction (body_in bytes.now places))).assembly }
+) -> io::Result<Assembly>
+    ensures { IfOk result (λ after. after ≡ (joined a (length buffer.old) (message instruction (body_in bytes.now places))).assembly) }
 {
     let h = parts_handing::join_handing(a, buffer, instruction, places, bytes);
-    said(h.joined, h.part, text)
+    text::answer(to, h.joined.answer, h.part, text)?;
+    Ok(h.joined.assembly)
 }

@@ -1,33 +1,33 @@
 // Messages joined as they are told, whatever a reader would say of them.
 use crate::hand::join_said;
 use crate::text::{MOST, number, value};
-use parts_join::Assembly;
-use sedna::{Found, Shape};
-use sedna_read::{Places, UrlPlace};
-use text_lines::cut::{behind, front, same};
-use text_lines::print::say;
+use parts_join::{Assembly, Open};
+use sedna::Shape;
+use sedna_read::Places;
+use std::io::{self, Write};
+use text_lines::cut::{Parts, behind, front};
 use wire::Place;
 
 // What a word opens.
-pub fn opened(word: &[u8]) -> Assembly {
-    if same(word, b"statement") {
-        return parts_join::open_statement();
-    }
-    if same(word, b"item") {
-        return parts_join::open_item();
-    }
-    if same(word, b"typed") {
-        return parts_join::open_typed_item();
-    }
-    if !same(word, b"none") {
-        say(b" ?");
-    }
-    Assembly::CLOSED
+pub fn opened<W: Write>(to: &mut W, word: &[u8]) -> io::Result<Assembly> {
+    let what = if word == b"statement".as_slice() {
+        Open::Statement
+    } else if word == b"item".as_slice() {
+        Open::Item
+    } else if word == b"typed".as_slice() {
+        Open::TypedItem
+    } else {
+        if word != b"none".as_slice() {
+            to.write_all(b" ?")?;
+        }
+        Open::Nothing
+    };
+    Ok(Assembly::open(what))
 }
 
 // The body that an instruction has, with its text at a place. Options are none.
 fn places(instruction: u32, text: Place, values: &[u8]) -> Places {
-    let Found::Known(_, shape) = sedna::find(instruction) else {
+    let Some((_, shape)) = sedna::find(instruction) else {
         return Places::Empty;
     };
     match shape {
@@ -47,7 +47,7 @@ fn places(instruction: u32, text: Place, values: &[u8]) -> Places {
         Shape::Item => Places::Item {
             class: value(front(values, b':'), 1),
             kind: value(behind(values, b':'), 24),
-            url: UrlPlace::Absent,
+            url: None,
             part: text,
         },
     }
@@ -55,39 +55,44 @@ fn places(instruction: u32, text: Place, values: &[u8]) -> Places {
 
 // Joins the message that a word tells, or opens anew. Its text is the part of the pattern that goes
 // on from what is held, so that the whole is the pattern's front.
-fn take(a: Assembly, buffer: &mut [u8], pattern: &[u8], word: &[u8]) -> Assembly {
-    say(b"; ");
-    say(word);
+fn take<W: Write>(
+    to: &mut W,
+    a: Assembly,
+    buffer: &mut [u8],
+    pattern: &[u8],
+    word: &[u8],
+) -> io::Result<Assembly> {
+    to.write_all(b"; ")?;
+    to.write_all(word)?;
     let instruction = number(front(word, b':'), 32769);
     if MOST < instruction {
-        return opened(word);
+        return opened(to, word);
     }
     let rest = behind(word, b':');
     let start = a.held;
     let len = number(front(rest, b':'), 0);
     let places = places(instruction as u32, Place { start, len }, behind(rest, b':'));
-    join_said(a, buffer, instruction as u32, places, pattern, pattern)
+    join_said(to, a, buffer, instruction as u32, places, pattern, pattern)
 }
 
 // The words are OPENING ROOM M M ..
-pub fn answered(pattern: &[u8], words: &[u8]) {
+pub fn answered<W: Write>(to: &mut W, pattern: &[u8], words: &[u8]) -> io::Result<()> {
+    // An array: no heap, as in the library.
     let mut buffer = [0u8; MOST];
+    let opening = front(words, b' ');
     let rest = behind(words, b' ');
     let room = number(front(rest, b' '), 32769);
-    say(b"join ");
-    say(front(words, b' '));
-    let mut a = opened(front(words, b' '));
-    say(b" ");
-    say(front(rest, b' '));
+    to.write_all(b"join ")?;
+    to.write_all(opening)?;
+    let mut a = opened(to, opening)?;
+    to.write_all(b" ")?;
+    to.write_all(front(rest, b' '))?;
     if MOST < room {
-        return say(b" ?");
+        return to.write_all(b" ?");
     }
     let lent = &mut buffer[0..room];
-    let words = behind(rest, b' ');
-    let mut at = 0;
-    while at < words.len() {
-        let word = front(&words[at..], b' ');
-        a = take(a, lent, pattern, word);
-        at += word.len() + 1;
+    for word in Parts::of(behind(rest, b' '), b' ') {
+        a = take(to, a, lent, pattern, word)?;
     }
+    Ok(())
 }

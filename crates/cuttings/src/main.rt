@@ -21,35 +21,46 @@ mod hand;
 mod join;
 mod text;
 
-use text::fill;
-use text_lines::cut::{behind, front, same};
+use std::io::{self, Write};
+use text_lines::answers::{Answers, all_lines};
+use text_lines::cut::{behind, front};
 use text_lines::input::asks;
-use text_lines::print::say;
 
-fn show(pattern: &[u8], line: &[u8]) {
-    let kind = front(line, b' ');
-    if same(kind, b"join") {
-        return join::answered(pattern, behind(line, b' '));
+// The pattern is long enough for what a buffer holds and one more message, each of 32,769 bytes at most.
+#[derive(Drop)]
+struct Cuttings {
+    // An array: no heap, as in the library.
+    pattern: [u8; 65538],
+}
+
+impl Answers for Cuttings {
+    fn answer<W: Write>(&mut self, to: &mut W, line: &[u8]) -> io::Result<()> {
+        let kind = front(line, b' ');
+        let words = behind(line, b' ');
+        if kind == b"join".as_slice() {
+            join::answered(to, &self.pattern, words)?;
+        } else {
+            to.write_all(line)?;
+            if asks(line) {
+                cut::answered(to, kind, &self.pattern, words)?;
+            }
+        }
+        to.write_all(b"\n")
     }
-    say(line);
-    if asks(line) {
-        cut::answered(kind, pattern, behind(line, b' '));
+
+    // Nothing is said of it.
+    fn more<W: Write>(&mut self, _to: &mut W) -> io::Result<()> {
+        Ok(())
     }
 }
 
-// The input is 65,536 bytes at most. The pattern is long enough for what a buffer holds and one more
-// message, each of 32,769 bytes at most.
-fn main() {
+// The input is 65,536 bytes at most.
+fn main(rt: HostRuntime) -> io::Result<()> {
     let mut pattern = [0u8; 65538];
-    let mut buffer = io::large_buffer();
-    fill(&mut pattern);
-    let n = io::read_full(text_lines::input::STDIN, &mut buffer);
-    let text = &buffer[..n];
-    let mut at = 0;
-    while at < text.len() {
-        let line = front(&text[at..], b'\n');
-        show(&pattern, line);
-        say(b"\n");
-        at += line.len() + 1;
-    }
+    text::fill(&mut pattern);
+    all_lines(
+        &mut rt.reader(),
+        &mut io::writer(&rt),
+        &mut Cuttings { pattern },
+    )
 }

@@ -14,7 +14,7 @@ use lib.ListN.{length}
 use Rattle.basex_string.specs.Strings.{string}
 use Rattle.basex_string.proofs.Steps.{string-length, specials-within}
 use Rattle.demands.specs.BaseXCalls.{BaseXCalls}
-use Rattle.demands.proofs.BaseXCalls.Answers.{count-is}
+use Rattle.demands.proofs.Answered.{counted}
 use Rattle.demands.proofs.BaseXCalls.Reading.{string_at, decode, read_request, read_response}
 use Rattle.demands.proofs.BaseXCalls.Writing.{write_string, write_request, write_item, write_end}
 use Rattle.demands.proofs.BaseXCalls.Errors.{error_due, error, error-told}
@@ -27,7 +27,7 @@ use Rattle.demands.proofs.BaseXCalls.Streamed.{item_first, items_streamed}
 pub basex_calls : BaseXCalls
 basex_calls =
     record {
-      string_len = λ text h. count-is (length (string text)) (length (string text)) refl (omega (arith, string-length text, specials-within text));
+      string_len = λ text h. counted (length (string text)) (omega (arith, string-length text, specials-within text));
       write_string = write_string;
       string_at = string_at;
       decode = λ s short at out to told. decode s short at told out to;

@@ -1,12 +1,10 @@
 -- Demand 3 holds: over the list offered, the session record follows the accepted messages.
-use mathlib.Core.Bool.{Bool, true, false}
 use mathlib.Core.List.{List, []}
 use mathlib.Core.Path.{◌≡◌, refl, sym, ◌∙◌, ap, subst}
 use Prim.Native.Nat.{ℕ}
-use lib.Dec.{eqb}
-use Rattle.wire.specs.Bytes.{if}
+use native.Mathlib.Omega.{arith}
+use Rattle.std.proofs.lemmas.Bool.Decides.{nat_tests}
 use Rattle.wire.specs.Calls.{Done}
-use Rattle.wire.specs.declared.Refusal.TheVariants.{OutOfOrder}
 use Rattle.wire.proofs.Calls.{Goes, all_right, holds_after}
 use Rattle.sedna.specs.Message.{Message}
 use Rattle.sedna_laws.proofs.Exact.{exact}
@@ -17,13 +15,13 @@ use Rattle.sedna_read.specs.Reading.{Answer, reading}
 use Rattle.grammar.proofs.Ended.{ended}
 use Rattle.grammar.proofs.One.{one_layout}
 use Rattle.session.specs.declared.Session.{Session}
-use Rattle.session.specs.Machine.{refused, next}
-use Rattle.session.specs.Step.{fresh_session, Outcome, outcome, settled, version_after, stepped}
+use Rattle.session.specs.Machine.{next}
+use Rattle.session.specs.Step.{fresh_session, Outcome, outcome, settled, stepped}
 use Rattle.session_laws.proofs.Begun.{has-turn, one_turn, broken_off, error_answers}
 use Rattle.session_laws.proofs.Follows.{Follows, fresh_follows, begins, whole-closed, Settled, settles, moved, nine}
 use Rattle.session_laws.proofs.Published.{published-sent, published_exact, begun-published}
 use Rattle.session_laws.proofs.Turn.{turn_exact}
-use Rattle.demands.specs.Demand3.{Form, Offer, RightAnswer, accepting, step, Demand3}
+use Rattle.demands.specs.Demand3.{Offer, RightAnswer, accepting, step, Demand3}
 
 module _ (o : Offer) where
   abbrev read : Answer
@@ -35,14 +33,9 @@ module _ (o : Offer) where
   -- the step's answer, told by places, means itself
   means : (s : Session) (a : Answer) → read ≡ a → meant (outcome s a).answer ≡ (outcome s a).answer
   means s (Answer.refused r) e = refl
-  means s (Answer.accepted m n) e = by (eqb (next s.phase s.version m.instruction) refused)
-    where
-      there : Outcome
-      there = record { session = record { phase = next s.phase s.version m.instruction; version = version_after m.instruction s.version m.body }; answer = Answer.accepted m n }
-
-      by : (t : Bool) → meant (if t (record { session = s; answer = Answer.refused OutOfOrder }) there).answer ≡ (if t (record { session = s; answer = Answer.refused OutOfOrder }) there).answer
-      by true = refl
-      by false = ap meant (sym e) ∙ meaning-located o.side o.bytes o.are_bytes ∙ e
+  means s (Answer.accepted m n) e =
+      let same : meant (Answer.accepted m n) ≡ Answer.accepted m n = ap meant (sym e) ∙ meaning-located o.side o.bytes o.are_bytes ∙ e in
+      grind (arith, nat_tests, same)
 
   -- both forms do what the definition of the step says
   abbrev done : Outcome → Done Session Answer
@@ -50,11 +43,7 @@ module _ (o : Offer) where
 
   does : (s : Session) → step s o ≡ done (outcome s read)
   unfolding stepped
-  does s = by o.form refl
-    where
-      by : (f : Form) → o.form ≡ f → step s o ≡ done (outcome s read)
-      by Form.by_value e = rw e (λ i. record { record_after = (outcome s read).session; answer = means s read refl i })
-      by Form.lent e = rw e (λ i. record { record_after = (outcome s read).session; answer = means s read refl i })
+  does s = let same = means s read refl in grind arith
 
 -- what is right of a step, as `AllRight` asks for it
 abbrev pub Right : List Message → Session → Offer → Done Session Answer → Type 0

@@ -1,32 +1,29 @@
 -- Demand 3 holds of the exported calls: the record in the caller's bytes follows the messages accepted.
 use mathlib.Core.Bool.{Bool, true, false}
 use mathlib.Core.List.{List, [], ◌∷◌, ◌++◌}
-use mathlib.Core.Path.{◌≡◌, refl, sym, ap, subst, ◌∙◌}
+use mathlib.Core.Path.{◌≡◌, refl, sym, ap, subst}
 use Prim.Native.Nat.{ℕ, ◌-◌, ◌≤◌}
 use native.Mathlib.Omega.{arith}
 use lib.Dec.{eqb, ltb}
 use lib.ListN.{length, drop}
 use borrow.Author.Tests.{lt-ltb, le-ltb, ltb-true, ltb-false}
+use Rattle.std.specs.Prelude.{Option, Some, None, Err}
+use Rattle.std.proofs.lemmas.Bool.Decides.{nat_tests}
 use Rattle.wire.specs.declared.Refusal.TheVariants.{ValueNotAllowed, OutOfOrder, NoRoom}
 use Rattle.wire.specs.declared.Refusal.{Refusal}
 use Rattle.wire.specs.Refusals.{number_of}
 use Rattle.sedna.specs.declared.Side.{Side}
 use Rattle.sedna.specs.declared.Side.TheVariants.{Client, Server}
 use Rattle.sedna.specs.Message.{Message}
-use Rattle.sedna_read.specs.declared.Reading.TheVariants as reads
 use Rattle.sedna_read.specs.Places.{places_of}
 use Rattle.sedna_read.specs.Reading.{Answer, reading}
 use Rattle.wire.specs.Calls.{Done}
-use Rattle.wire.proofs.Branches.{apart}
 use Rattle.wire.proofs.Calls.{all_right, holds_after}
 use Rattle.wire.proofs.Calls as calls-of
 use Rattle.sedna_laws.proofs.Exact.{exact}
-use Rattle.grammar.specs.Conversation.{Whole}
 use Rattle.session.specs.declared.Session.{Session}
 use Rattle.session.specs.declared.Stepped.{Stepped}
-use Rattle.session.specs.declared.Turn.{Turn}
-use Rattle.session.specs.declared.Turn.TheVariants.{Of, Over}
-use Rattle.session.specs.Step.{fresh_session, Outcome, outcome, by_places, stepped, closed_of, turn_of, side_of}
+use Rattle.session.specs.Step.{fresh_session, Outcome, outcome, by_places, stepped, turn_of, side_of}
 use Rattle.session_laws.proofs.Follows.{Follows, fresh_follows, begins, whole-closed, Settled, settles, moved, nine}
 use Rattle.session_laws.proofs.Published.{published-sent}
 use Rattle.session_laws.proofs.Turn.{turn_exact}
@@ -35,9 +32,9 @@ use Rattle.sedna_c.specs.Sessions.{record_in, record_put, side_stepped, kept, tu
 use Rattle.demands.specs.Answered.{Answered, answered, Call, Told}
 use Rattle.demands.specs.Exports.{called, Why, RightCall, accepting, Closes, Turns, After, Demand3Exports}
 use Rattle.demands.specs.Header.{SideOf, client, server, TurnOf}
-use Rattle.demands.proofs.SednaCalls.{is-offered, Sides, sides, is-client, is-server}
-use Rattle.demands.proofs.Tells as tells
-use Rattle.demands.proofs.Tells.{counted, read_count, behind}
+use Rattle.demands.proofs.Answered as answers
+use Rattle.demands.proofs.SednaCalls.{is-offered, Sides, sides}
+use Rattle.demands.proofs.Tells.{read_count, tells, ten}
 
 -- what a call makes of a step
 abbrev called_as : List ℕ → Call → Stepped → Done (List ℕ) Told
@@ -49,11 +46,10 @@ called_as d c x = record {
 -- what a side's step is
 side-stepped : (s : Session) (side : ℕ) (of : Side) (bytes : List ℕ) → SideOf side of → side_stepped s side bytes ≡ stepped s of bytes
 unfolding side_stepped
-side-stepped s side of bytes client = refl
-side-stepped s side of bytes server = refl
+side-stepped s side of bytes is = grind arith
 
 side-nobody : (s : Session) (side : ℕ) (bytes : List ℕ) → eqb side 1 ≡ false → eqb side 2 ≡ false
-    → side_stepped s side bytes ≡ record { session = s; answer = reads.Refused ValueNotAllowed }
+    → side_stepped s side bytes ≡ record { session = s; answer = Err ValueNotAllowed }
 unfolding side_stepped
 side-nobody s side bytes o p = rw (o, p)
 
@@ -70,8 +66,8 @@ module _ (before : List Message) (d : List ℕ) (two : 2 ≤ length d) (c : Call
   is-called : called d c ≡ called_as d c (side_stepped (record_in d) c.side c.bytes)
   is-called = rw (le-ltb (length d) 2 two)
 
-  refused : (r : Refusal) → Why before c (number_of r) → Goes before d c (called_as d c (record { session = record_in d; answer = reads.Refused r }))
-  refused r why = rw (tells.refused r) (RightCall.refused (number_of r) why, record { two = two; follows = i })
+  refused : (r : Refusal) → Why before c (number_of r) → Goes before d c (called_as d c (record { session = record_in d; answer = Err r }))
+  refused r why = rw (answers.refused r) (RightCall.refused (number_of r) why, record { two = two; follows = i })
 
   module _ (side : Side) (is : SideOf c.side side) where
     -- a message that is accepted, where the numbers have room for it
@@ -84,8 +80,8 @@ module _ (before : List Message) (d : List ℕ) (two : 2 ≤ length d) (c : Call
         by false room =
             rw (room, read_count side c.bytes c.are_bytes m n e, is-offered c.bytes is e) (
               RightCall.accepted m n (record_put s d) _ (record { side = side; is = is; read = e }) (begins f) (ltb-false (length c.numbers) 10 room)
-                  (tells.tells side c.bytes c.are_bytes m n e (drop 10 c.numbers))
-                  (behind m.instruction (places_of 8 (n - 8) m.body) (drop 10 c.numbers)) refl,
+                  (tells side c.bytes c.are_bytes m n e (drop 10 c.numbers))
+                  (ten m.instruction (places_of 8 (n - 8) m.body) (drop 10 c.numbers)).1 refl,
               record { two = omega arith; follows = f },
             )
 
@@ -106,32 +102,19 @@ module _ (before : List Message) (d : List ℕ) (two : 2 ≤ length d) (c : Call
   goes = subst (Goes before d c) (sym is-called) (by (sides c.side))
     where
       by : Sides c.side → Goes before d c (called_as d c (side_stepped (record_in d) c.side c.bytes))
-      by (Sides.one e) = rw (side-stepped (record_in d) c.side Client c.bytes (is-client e)) (stepped_so Client (is-client e))
-      by (Sides.two o e) = rw (side-stepped (record_in d) c.side Server c.bytes (is-server e)) (stepped_so Server (is-server e))
+      by (Sides.one side is) = rw (side-stepped (record_in d) c.side side c.bytes is) (stepped_so side is)
       by (Sides.neither o p none) = rw (side-nobody (record_in d) c.side c.bytes o p) (refused ValueNotAllowed (Why.nobody none))
 
 closes : (before : List Message) (d : List ℕ) → 2 ≤ length d → Follows before (record_in d) → Closes before d
-closes before d two i = by (closed_of (record_in d)) refl
-  where
-    whole : Whole before → closed_of (record_in d) ≡ true
-    whole = (whole-closed i).1
-
-    by : (t : Bool) → closed_of (record_in d) ≡ t → Closes before d
-    by true e = record {
-      over = rw (le-ltb (length d) 2 two, e) (λ _. (whole-closed i).0 e, λ _. refl);
-      goes_on = rw (le-ltb (length d) 2 two, e) (λ z. absurd (omega (arith, z)), λ no. absurd (no ((whole-closed i).0 e)));
-    }
-    by false e =
-        let no : Whole before → ⊥ = λ w. apart (let z : true ≡ false = sym (whole w) ∙ e in cc) in
-        record { over = rw (le-ltb (length d) 2 two, e) (λ z. absurd (omega (arith, z)), λ w. absurd (no w)); goes_on = rw (le-ltb (length d) 2 two, e) (λ _. no, λ _. refl) }
+closes before d two i = record { over = grind (arith, nat_tests, whole-closed i); goes_on = grind (arith, nat_tests, whole-closed i) }
 
 turns : (before : List Message) (d : List ℕ) → 2 ≤ length d → Follows before (record_in d) → Turns before d
 turns before d two i = record { turn = side_of (turn_of (record_in d)); names = rw (le-ltb (length d) 2 two) (number (turn_of (record_in d))); has = turn_exact i }
   where
-    number : (t : Turn) → TurnOf (turn_number t) (side_of t)
-    number (Of Client) = TurnOf.somebody client
-    number (Of Server) = TurnOf.somebody server
-    number Over = TurnOf.nobody
+    number : (t : Option Side) → TurnOf (turn_number t) (side_of t)
+    number (Some Client) = TurnOf.somebody client
+    number (Some Server) = TurnOf.somebody server
+    number None = TurnOf.nobody
 
 goes_on : calls-of.Goes called accepting RightCall Kept
 goes_on before d c k = goes before d k.two c k.follows
@@ -149,12 +132,12 @@ after d k calls =
 pub demand_3_exports : Demand3Exports
 demand_3_exports = record {
   after_any_calls = λ d two calls. rw (le-ltb (length d) 2 two) (after (record_put fresh_session d) (record { two = omega arith; follows = fresh_follows }) calls);
-  fresh = λ d two. rw (le-ltb (length d) 2 two) (counted 0 (omega arith), refl);
+  fresh = λ d two. rw (le-ltb (length d) 2 two) (answers.counted 0 (omega arith), refl);
   no_record = λ d short c. rw (lt-ltb (length d) 2 short) (
-    tells.refused NoRoom,
+    answers.refused NoRoom,
     refl,
     ap
-        (λ (x : Answered). record { record_after = d; answer = record { answer = x; numbers = c.numbers } }) (tells.refused NoRoom),
+        (λ (x : Answered). record { record_after = d; answer = record { answer = x; numbers = c.numbers } }) (answers.refused NoRoom),
     refl,
     refl,
   );

@@ -2,26 +2,24 @@
 use mathlib.Core.Bool.{Bool, true, false}
 use mathlib.Core.List.{List, [], ◌∷◌}
 use mathlib.Core.Path.{◌≡◌, refl, sym, ap, ◌∙◌}
-use Prim.Native.Nat.{ℕ, zero, suc, ◌+◌, ◌≤◌, ◌<◌}
+use Prim.Native.Nat.{ℕ, zero, suc, ◌≤◌, ◌<◌}
 use native.Mathlib.Omega.{arith}
-use lib.Dec.{eqb, ltb, leb}
-use lib.ListN.{length, get_or}
-use borrow.Author.Tests.{ltb-true, ltb-false, leb-true}
-use Rattle.wire.specs.Bytes.{if, between}
+use lib.Dec.{eqb, ltb}
+use lib.ListN.{get_or}
+use borrow.Author.Tests.{ltb-true, ltb-false}
+use Rattle.std.specs.Prelude.{Option, Some, None}
+use Rattle.std.proofs.lemmas.Bool.Decides.{nat_tests}
+use Rattle.wire.specs.Bytes.{if}
 use Rattle.sedna.specs.Allowed.{format_allowed, class_allowed, type_allowed, allowed}
 use Rattle.sedna.specs.Message.{Body, Message}
 use Rattle.parts_join.specs.declared.Assembly.{Assembly}
-use Rattle.parts_join.specs.declared.Joined.{Joined}
 use Rattle.parts_join.specs.declared.Label.{Label}
 use Rattle.parts_join.specs.declared.Open.{Open}
 use Rattle.parts_join.specs.declared.Open.TheVariants.{Nothing, Statement, Item, TypedItem}
 use Rattle.parts_join.specs.Answers.{Reply}
-use Rattle.parts_join.specs.Joining.{grown, accepted, fitted, joined_as, joined}
-use Rattle.parts_join.specs.Roles.{role_of, takes, in_order, ends, text_of, label_of}
-use Rattle.parts_c.specs.declared.joining.Meant.{Meant}
-use Rattle.parts_c.specs.declared.joining.Meant.TheVariants as meant
+use Rattle.parts_join.specs.Joining.{fitted, joined_as, joined}
+use Rattle.parts_join.specs.Roles.{label_of}
 use Rattle.parts_c.specs.Joining.{open_of, open_number, flag_of, assembly_in, assembly_put, meant_by}
-use Rattle.wire.proofs.Branches.{apart, both}
 use Rattle.demands.specs.Header.{◌at◌}
 use Rattle.demands.specs.Gatherings.{Gathering, Flag, Means, TOLD_WHAT, TOLD_LENGTH, TOLD_FORMAT, TOLD_CLASS, TOLD_TYPE, TellsReply}
 
@@ -37,15 +35,11 @@ flag_of_lem zero h = Flag.off
 flag_of_lem (suc zero) h = Flag.on
 flag_of_lem (suc (suc n)) h = absurd (omega arith)
 
-gathering_few : {n : ℕ} {o : Open} → Gathering n o → n ≤ 3
-gathering_few Gathering.nothing = omega arith
-gathering_few Gathering.statement = omega arith
-gathering_few Gathering.item = omega arith
-gathering_few Gathering.typed_item = omega arith
+pub gathering_few : {n : ℕ} {o : Open} → Gathering n o → n ≤ 3
+gathering_few g = grind arith
 
 flag_few : {n : ℕ} {b : Bool} → Flag n b → n ≤ 1
-flag_few Flag.off = omega arith
-flag_few Flag.on = omega arith
+flag_few f = grind arith
 
 number_gathers : (o : Open) → Gathering (open_number o) o
 number_gathers Nothing = Gathering.nothing
@@ -82,14 +76,14 @@ means-bytes {d} {a} m =
     (omega (arith, b.0, f), omega (arith, b.1, c), omega (arith, b.2, k))
 
 -- what the code takes is what some assembly has
-pub data MeansIn (d : List ℕ) : Meant → Type 0 where
-  none : ((a : Assembly) → ¬ Means d a) → MeansIn d meant.Nothing
-  is : {a : Assembly} → Means d a → MeansIn d (meant.Is a)
+pub data MeansIn (d : List ℕ) : Option Assembly → Type 0 where
+  none : ((a : Assembly) → ¬ Means d a) → MeansIn d None
+  is : {a : Assembly} → Means d a → MeansIn d (Some a)
 
-tested : (d : List ℕ) (lo n : ℕ) (x : Meant) → (lo < n → (a : Assembly) → ¬ Means d a) → (n ≤ lo → MeansIn d x) → MeansIn d (if (ltb lo n) meant.Nothing x)
+tested : (d : List ℕ) (lo n : ℕ) (x : Option Assembly) → (lo < n → (a : Assembly) → ¬ Means d a) → (n ≤ lo → MeansIn d x) → MeansIn d (if (ltb lo n) None x)
 tested d lo n x above below = by (ltb lo n) refl
   where
-    by : (t : Bool) → ltb lo n ≡ t → MeansIn d (if t meant.Nothing x)
+    by : (t : Bool) → ltb lo n ≡ t → MeansIn d (if t None x)
     by true e = MeansIn.none (above (ltb-true lo n e))
     by false e = below (ltb-false lo n e)
 
@@ -114,72 +108,28 @@ meant-means d =
     })
 
 -- a body's label is of bytes, where its values are allowed
-small : (lo hi n : ℕ) → between lo hi n ≡ true → n ≤ hi
-small lo hi n e = by (leb lo n) e
-  where
-    by : (t : Bool) → if t (leb n hi) false ≡ true → n ≤ hi
-    by true q = leb-true n hi q
-    by false q = apart (cc)
-
 label-bytes : (b : Body) → allowed b ≡ true → Bytes (label_of b)
 unfolding allowed format_allowed class_allowed type_allowed
 label-bytes Body.empty e = (omega arith, omega arith, omega arith)
 label-bytes (Body.session major minor user database) e = (omega arith, omega arith, omega arith)
 label-bytes (Body.text t) e = (omega arith, omega arith, omega arith)
-label-bytes (Body.statement format t) e = let z = leb-true format 1 e in (omega (arith, z), omega arith, omega arith)
+label-bytes (Body.statement format t) e = (grind (arith, nat_tests), omega arith, omega arith)
 label-bytes (Body.coded code t) e = (omega arith, omega arith, omega arith)
 label-bytes (Body.options pairs) e = (omega arith, omega arith, omega arith)
-label-bytes (Body.item class kind url part) e =
-    let ok = (both (between 1 8 class) (type_allowed kind)).0 e in
-    let c = small 1 8 class ok.0 in
-    let k = type_small kind ok.1 in
-    (omega arith, omega (arith, c), omega (arith, k))
-  where
-    type_small : (n : ℕ) → type_allowed n ≡ true → n ≤ 61
-    type_small n e = by (leb n 6) refl (between 10 32 n) refl e
-      where
-        by : (s : Bool) → leb n 6 ≡ s → (t : Bool) → between 10 32 n ≡ t → if s true (if t true (between 41 61 n)) ≡ true → n ≤ 61
-        by true p t q z = let x = leb-true n 6 p in omega (arith, x)
-        by false p true q z = let x = small 10 32 n q in omega (arith, x)
-        by false p false q z = small 41 61 n z
-
-Small : Joined → Type 0
-Small j = Bytes j.assembly.label
-
-chosen : (t : Bool) (i j : Joined) → (t ≡ true → Small i) → Small j → Small (if t i j)
-chosen true i j p q = p refl
-chosen false i j p q = q
+label-bytes (Body.item class kind url part) e = (omega arith, grind (arith, nat_tests), grind (arith, nat_tests))
 
 -- the label of the assembly behind a message is of bytes too
 pub joined_bytes : (a : Assembly) (room : ℕ) (m : Message) → Bytes a.label → Bytes (joined a room m).assembly.label
-unfolding joined joined_as fitted Small
+unfolding joined joined_as fitted
 joined_bytes a room m h =
-    chosen (allowed m.body) _ _
-    (λ ok. chosen (takes (role_of a.what m)) _ _
-    (λ _. chosen a.overflowed _ _ (λ _. h)
-    (chosen (in_order (role_of a.what m) a.begun) _ _
-    (λ _. chosen (ltb room (a.held + length (text_of m.body))) _ _ (λ _. h) (taken (label-bytes m.body ok)))
-    h))
-    h)
-    h
-  where
-    label : (t : Bool) (l : Label) → Bytes l → Bytes (if t a.label l)
-    label true l z = h
-    label false l z = z
-
-    taken : Bytes (label_of m.body) → Small (accepted (grown a (label_of m.body) (length (text_of m.body))) (role_of a.what m))
-    taken z = chosen (ends (role_of a.what m)) _ _ (λ _. (omega arith, omega arith, omega arith)) (label a.begun (label_of m.body) z)
+    (grind (arith, nat_tests, label-bytes m.body), grind (arith, nat_tests, label-bytes m.body), grind (arith, nat_tests, label-bytes m.body))
 
 -- numbers mean one thing
-gathering_is : {n : ℕ} {o : Open} → Gathering n o → o ≡ open_of n
-gathering_is Gathering.nothing = refl
-gathering_is Gathering.statement = refl
-gathering_is Gathering.item = refl
-gathering_is Gathering.typed_item = refl
+pub gathering_is : {n : ℕ} {o : Open} → Gathering n o → o ≡ open_of n
+gathering_is g = grind arith
 
 flag_is : {n : ℕ} {b : Bool} → Flag n b → b ≡ eqb n 1
-flag_is Flag.off = refl
-flag_is Flag.on = refl
+flag_is f = grind arith
 
 pub one_assembly : (d : List ℕ) (a b : Assembly) → Means d a → Means d b → a ≡ b
 one_assembly d a b m n = is a m ∙ sym (is b n)

@@ -6,8 +6,11 @@ use mathlib.Core.Path.{◌≡◌, refl, sym, ap, subst, ◌∙◌}
 use Prim.Native.Nat.{ℕ, ◌≤◌}
 use native.Mathlib.Omega.{arith}
 use lib.Dec.{eqb, ltb}
-use lib.ListN.{length, drop, set}
-use borrow.Author.Tests.{le-ltb, ne_eqb}
+use lib.ListN.{length, drop}
+use borrow.Author.Tests.{ne_eqb}
+use Rattle.std.specs.Prelude.{Option, Result}
+use Rattle.std.proofs.lemmas.Bool.Decides.{nat_tests}
+use Rattle.wire.specs.declared.Refusal.{Refusal}
 use Rattle.wire.specs.Bytes.{if, splice}
 use Rattle.wire.specs.Calls.{Done, record_after_all, kept_after_all}
 use Rattle.wire.specs.declared.Refusal.TheVariants.{NoRoom}
@@ -15,7 +18,6 @@ use Rattle.wire.specs.Refusals.{number_of}
 use Rattle.wire.proofs.Calls.{all_right, holds_after}
 use Rattle.sedna.specs.Message.{Message}
 use Rattle.sedna_read.specs.declared.Reading.{Reading}
-use Rattle.sedna_read.specs.declared.Reading.TheVariants as read
 use Rattle.sedna_laws.proofs.Refusals.{reading-refusals}
 use Rattle.parts_join.specs.declared.Assembly.{Assembly}
 use Rattle.parts_join.specs.declared.Open.{Open}
@@ -29,8 +31,6 @@ use Rattle.parts_join.proofs.Cuttings.{over-fronted}
 use Rattle.parts_join.proofs.Offered.{Holds, call_right, fresh_holds}
 use Rattle.parts_join.proofs.Refusals.{refusal-leaves}
 use Rattle.sedna_c.specs.Codes.{side_reading}
-use Rattle.parts_c.specs.declared.joining.Meant.{Meant}
-use Rattle.parts_c.specs.declared.joining.Meant.TheVariants as meant
 use Rattle.parts_c.specs.Joining.{assembly_put, meant_by, open_after, Outcome, unchanged as left_alone, meant_joined, outcome}
 use Rattle.demands.specs.Answered.{Answered, Call, Told}
 use Rattle.demands.specs.Gatherings.{Gathering, Means, TellsReply}
@@ -42,40 +42,21 @@ use Rattle.demands.proofs.SednaCalls.{is-offered}
 
 -- seven numbers stay seven
 module _ (d buffer bytes told : List ℕ) (h : 7 ≤ length d) where
-  outcome_seven : (t u : Bool) (k : Meant) (r : Reading)
+  outcome_seven : (t u : Bool) (k : Option Assembly) (r : Result Reading Refusal)
       → 7 ≤ length (if {A = Outcome} t (left_alone NoRoom d buffer told) (if u (left_alone NoRoom d buffer told) (meant_joined k r bytes d buffer told))).assembly
-  outcome_seven true u k r = h
-  outcome_seven false true k r = h
-  outcome_seven false false meant.Nothing r = h
-  outcome_seven false false (meant.Is a) (read.Refused r) = h
-  outcome_seven false false (meant.Is a) (read.Message i p n) = omega arith
+  outcome_seven t u k r = grind (arith, nat_tests)
 
   seven : (side : ℕ) → 7 ≤ length (outcome d buffer side bytes told).assembly
   unfolding outcome
   seven side = outcome_seven (ltb (length d) 7) (ltb (length told) 4) (meant_by d) (side_reading side bytes)
 
-unmarked : (spoilt : Bool) → (if spoilt true false) ≡ spoilt
-unmarked true = refl
-unmarked false = refl
-
 -- a message that is taken is accepted, and spoils nothing
 accepted : (k : Accepted) (m : Message) {t : List ℕ} {x : Reply} → TellsReply t x → accept k m x ≡ record { messages = k.messages ++ (m ∷ []); spoilt = k.spoilt }
-accepted k m (TellsReply.part g z) = refl
-accepted k m (TellsReply.statement g z) = refl
-accepted k m (TellsReply.item g z) = refl
-accepted k m (TellsReply.typed_item g) = refl
+accepted k m t = grind arith
 
 -- the mark is one of the seven
 marked-behind : (j : ℕ) (d : List ℕ) → drop 7 (refused_numbers j d) ≡ drop 7 d
-marked-behind j d = by (eqb j 12) d
-  where
-    by : (t : Bool) (l : List ℕ) → drop 7 (if t (set l 3 1) l) ≡ drop 7 l
-    by false l = refl
-    by true [] = refl
-    by true (a ∷ []) = refl
-    by true (a ∷ b ∷ []) = refl
-    by true (a ∷ b ∷ c ∷ []) = refl
-    by true (a ∷ b ∷ c ∷ e ∷ l) = refl
+marked-behind j d = grind (arith, nat_tests)
 
 module _ (what : Open) (d numbers : List ℕ) where
   -- what holds between the calls: the numbers mean a record that follows the messages accepted
@@ -93,7 +74,7 @@ module _ (what : Open) (d numbers : List ℕ) where
     -- a number other than 12 leaves what was kept
     kept : (n : ℕ) → eqb n 12 ≡ false → Follows (keep_by k c (Answered.refusal n)) s
     kept n e =
-        let same : k.spoilt ≡ (if k.spoilt true (eqb n 12)) = sym (ap (λ (t : Bool). if k.spoilt true t) e ∙ unmarked k.spoilt) in
+        let same : k.spoilt ≡ (if k.spoilt true (eqb n 12)) = grind (arith, nat_tests) in
         subst (λ (t : Bool). Follows (record { messages = k.messages; spoilt = t }) s) same f
 
     module _ (a : Assembly) (m : Message) (n : ℕ) (o : Offers s c a m n) where
@@ -171,10 +152,7 @@ after what d buffer calls = record {
     end = holds_after join_called keep (RightJoinCall what buffer) (Follows what buffer d) (goes what buffer d) none_accepted start calls fresh
 
 opened-numbers : {number : ℕ} {what : Open} → Gathering number what → ¬ (what ≡ Nothing) → (d : List ℕ) → 7 ≤ length d → open_after number d ≡ assembly_put (opened what) d
-opened-numbers Gathering.nothing some d h = absurd (some refl)
-opened-numbers Gathering.statement some d h = rw (le-ltb (length d) 7 h)
-opened-numbers Gathering.item some d h = rw (le-ltb (length d) 7 h)
-opened-numbers Gathering.typed_item some d h = rw (le-ltb (length d) 7 h)
+opened-numbers g some d h = grind (arith, nat_tests)
 
 pub join_calls : JoinCalls
 join_calls = record {

@@ -1,3 +1,4 @@
+pub mod Answered
 pub mod BaseXCalls
 pub mod Demand1
 pub mod Demand2

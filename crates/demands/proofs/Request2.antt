@@ -4,7 +4,6 @@ use mathlib.Core.Logic.{inl, inr}
 use mathlib.Core.Path.{◌≡◌, sym, ◌∙◌, subst}
 use Prim.Native.Nat.{ℕ}
 use Rattle.wire.specs.Calls.{record_after_all}
-use Rattle.wire.proofs.Branches.{apart}
 use Rattle.wire.proofs.Calls.{holds_after}
 use Rattle.sedna.specs.Message.{Message}
 use Rattle.sedna.specs.Names.{BulkLoadError}
@@ -26,7 +25,7 @@ module _ (offers : List Offer) (o : Offer) (m : Message) (n : ℕ) (read : readi
 
   -- what the grammar goes on with is accepted
   right-taken : Begins (before ++ (m ∷ [])) → (a : Answer) → RightAnswer before o a → a ≡ Answer.accepted m n
-  right-taken g a (RightAnswer.unread e) = apart (cc)
+  right-taken g a (RightAnswer.unread e) = cc
   right-taken g a (RightAnswer.out_of_order {m = k} e none nine) = let same : m ≡ k = cc in absurd (none (subst (λ (x : Message). Begins (before ++ (x ∷ []))) same g))
   right-taken g a (RightAnswer.accepted e on) = sym e ∙ read
 

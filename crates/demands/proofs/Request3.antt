@@ -1,13 +1,10 @@
 -- Document 02, request 3, is met.
-use mathlib.Core.Bool.{Bool, true, false}
 use mathlib.Core.List.{List, [], ◌∷◌, map}
 use mathlib.Core.Path.{◌≡◌, refl, sym, ◌∙◌, ap}
 use Prim.Native.Nat.{ℕ, ◌*◌}
 use native.Mathlib.Omega.{arith}
-use lib.Dec.{eqb}
 use lib.ListN.{length}
-use borrow.Author.Tests.{eqb-true}
-use Rattle.wire.specs.Bytes.{if}
+use Rattle.std.proofs.lemmas.Bool.Decides.{nat_tests}
 use Rattle.wire.specs.Every.{Every}
 use Rattle.sedna.specs.declared.Entry.{Entry}
 use Rattle.sedna.specs.Message.{Body, Message, message}
@@ -38,11 +35,7 @@ abbrev move_told : Outcome → ℕ
 move_told o = told_by o.session o.answer
 
 told : (s : Session) (m : Message) (n to : ℕ) → move_told (settled s m n to) ≡ to
-told s m n to = by (eqb to refused) _ _ (λ q. sym (eqb-true to refused q)) (λ q. refl)
-  where
-    by : (b : Bool) (x y : Outcome) → (b ≡ true → move_told x ≡ to) → (b ≡ false → move_told y ≡ to) → move_told (if b x y) ≡ to
-    by true x y f g = f refl
-    by false x y f g = g refl
+told s m n to = grind (arith, nat_tests)
 
 module _ (t : Table) where
   goes : Rule t → (s : Session) (a : Answer) → table_machine t s a ≡ outcome s a

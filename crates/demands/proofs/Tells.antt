@@ -1,44 +1,32 @@
--- Answers turned back, and that the ten numbers of a message that was read mean it.
+-- The ten numbers of a message that was read mean it, and its answer counts its bytes.
 use mathlib.Core.List.{List, [], ◌∷◌, ◌++◌}
 use mathlib.Core.Option.{some}
 use mathlib.Core.Path.{◌≡◌, refl, sym, ap, subst, ◌∙◌}
-use Prim.Native.Nat.{ℕ, suc, ◌+◌, ◌-◌, ◌≤◌, ◌<◌}
+use Prim.Native.Nat.{ℕ, suc, ◌+◌, ◌-◌, ◌≤◌}
 use native.Mathlib.Omega.{arith}
 use lib.Dec.{eqb}
 use lib.ListN.{length, take, drop, get_elem?, length-append}
-use borrow.Author.Tests.{lt-ltb, le-ltb}
+use Rattle.std.specs.Prelude.{Option}
+use Rattle.std.proofs.lemmas.Bool.Decides.{nat_tests}
 use Rattle.wire.specs.Bytes.{IsBytes, if, int}
-use Rattle.wire.specs.declared.Refusal.{Refusal}
-use Rattle.wire.specs.Refusals.{number_of}
-use Rattle.answer_c.specs.Codes.{refusal_code}
 use Rattle.sedna.specs.declared.Side.{Side}
 use Rattle.sedna.specs.Encode.{string, url_bytes, body_bytes, encode}
 use Rattle.sedna.specs.Message.{Url, Pair, Body, Message, message}
 use Rattle.sedna_read.specs.declared.OptionPlace.{OptionPlace}
-use Rattle.sedna_read.specs.declared.OptionPlace.TheVariants as option
 use Rattle.sedna_read.specs.declared.Places.{Places}
 use Rattle.sedna_read.specs.declared.Places.TheVariants as places
-use Rattle.sedna_read.specs.declared.UrlPlace.TheVariants as url
 use Rattle.sedna_read.specs.Meaning.{body_in, option_in}
 use Rattle.sedna_read.specs.Places.{places_of, option_at}
 use Rattle.sedna_read.specs.Reading.{Answer, reading}
 use Rattle.sedna_c.specs.Codes.{fields_of, option_fields_after}
-use Rattle.wire.proofs.Branches.{apart}
 use Rattle.sedna_laws.proofs.Exact.{exact, front-split}
 use Rattle.sedna_laws.proofs.Meaning.{meaning-located}
 use Rattle.sedna_laws.proofs.Options.{option_exact}
 use Rattle.sedna_laws.proofs.Written.{encode-length}
-use Rattle.demands.specs.Answered.{Answered, REFUSED, answered}
+use Rattle.demands.specs.Answered.{Answered, answered}
 use Rattle.demands.specs.Header.{◌at◌, slice, Inside, up_to, INSTRUCTION, SHAPE, START_1, LENGTH_1, START_2, LENGTH_2, COUNT, HAS_URL, MAJOR, MINOR}
 use Rattle.demands.specs.Header.{FORMAT, CODE, CLASS, TYPE, URL_START, URL_LENGTH, pair_told, option_numbers, Row, Tells}
-
-pub counted : (n : ℕ) → n < 9223372036854775808 → answered n ≡ Answered.count n
-counted n h = rw (lt-ltb n REFUSED h)
-
-pub refused : (r : Refusal) → answered (refusal_code r) ≡ Answered.refusal (number_of r)
-refused r =
-    let less : (refusal_code r - REFUSED) ≡ number_of r = omega arith in
-    rw (le-ltb (refusal_code r) REFUSED (omega arith), less)
+use Rattle.demands.proofs.Answered.{counted}
 
 -- a message that was read has at most 10,248 bytes
 pub read_short : (side : Side) (s : List ℕ) → IsBytes s → (m : Message) (n : ℕ) → reading side s ≡ Answer.accepted m n → n ≤ 10248
@@ -52,12 +40,11 @@ pub read_count : (side : Side) (s : List ℕ) → IsBytes s → (m : Message) (n
 read_count side s h m n e = let short = read_short side s h m n e in counted n (omega (arith, short))
 
 -- the option that three numbers mean
-option-told : (s : List ℕ) (o : OptionPlace) (p : Pair) → option_in s o ≡ some p → pair_told s (option_fields_after o (0 ∷ 0 ∷ 0 ∷ [])) ≡ p
-option-told s option.Missing p e = apart (cc)
-option-told s (option.At id v) p e = cc
+option-told : (s : List ℕ) (o : Option OptionPlace) (p : Pair) → option_in s o ≡ some p → pair_told s (option_fields_after o (0 ∷ 0 ∷ 0 ∷ [])) ≡ p
+option-told s o p e = grind arith
 
 -- all of them
-options-told : (s : List ℕ) (ps : List Pair) (f : ℕ → OptionPlace) → ((k : ℕ) → option_in s (f k) ≡ get_elem? ps k)
+options-told : (s : List ℕ) (ps : List Pair) (f : ℕ → Option OptionPlace) → ((k : ℕ) → option_in s (f k) ≡ get_elem? ps k)
     → up_to (length ps) (λ k. pair_told s (option_fields_after (f k) (0 ∷ 0 ∷ 0 ∷ []))) ≡ ps
 options-told s [] f h = refl
 options-told s (p ∷ ps) f h = λ i. option-told s (f 0) p (h 0) i ∷ options-told s ps (λ k. f (suc k)) (λ k. h (suc k)) i
@@ -94,24 +81,11 @@ module _ (side : Side) (s : List ℕ) (h : IsBytes s) (i n : ℕ) where
   -- the told places lie in the n bytes that were read
   inside : (b : Body) (rest : List ℕ) → n ≡ 8 + length (body_bytes b) → n ≤ length s → Holds b rest
   unfolding body_bytes url_bytes string int
-  inside Body.empty rest c l = (omega arith, omega arith)
-  inside (Body.session major minor user database) rest c l = let q = length-append (string user) (string database) in (omega (arith, c, l, q), omega (arith, c, l, q))
-  inside (Body.text t) rest c l = (omega (arith, c, l), omega arith)
-  inside (Body.statement format t) rest c l = (omega (arith, c, l), omega arith)
-  inside (Body.coded code t) rest c l = (omega (arith, c, l), omega arith)
-  inside (Body.options ps) rest c l = (omega (arith, c, l), omega arith)
-  inside (Body.item class kind Url.absent part) rest c l = (omega (arith, c, l), omega arith)
-  inside (Body.item class kind (Url.present url) part) rest c l = let q = length-append (string url) (string part) in (omega (arith, c, l, q), omega (arith, c, l, q))
+  inside b rest c l = (grind (arith, nat_tests, length-append {A = ℕ}), grind (arith, nat_tests, length-append {A = ℕ}))
 
-front : (i : ℕ) (p : Places) (rest : List ℕ) → (fields_of i p ++ rest) at INSTRUCTION ≡ i
-front i places.Empty rest = refl
-front i (places.Session major minor user database) rest = refl
-front i (places.Text t) rest = refl
-front i (places.Statement format t) rest = refl
-front i (places.Coded code t) rest = refl
-front i (places.Options pairs count) rest = refl
-front i (places.Item class kind url.Absent part) rest = refl
-front i (places.Item class kind (url.At u) part) rest = refl
+-- of the ten numbers the first is the instruction, and numbers behind the ten are behind them
+pub ten : (i : ℕ) (p : Places) (rest : List ℕ) → ((fields_of i p ++ rest) at INSTRUCTION ≡ i) × (drop 10 (fields_of i p ++ rest) ≡ rest)
+ten i p rest = (grind arith, grind arith)
 
 pub tells : (side : Side) (s : List ℕ) → IsBytes s → (m : Message) (n : ℕ) → reading side s ≡ Answer.accepted m n
     → (rest : List ℕ) → Tells s (fields_of m.instruction (places_of 8 (n - 8) m.body) ++ rest) m
@@ -121,22 +95,11 @@ tells side s h m n e rest =
     let count = there.1.count in
     let places = inside side s h m.instruction n m.body rest (omega (arith, count, encode-length m)) (omega (arith, count, long)) in
     record {
-      instruction = front m.instruction (places_of 8 (n - 8) m.body) rest;
+      instruction = (ten m.instruction (places_of 8 (n - 8) m.body) rest).0;
       body = row side s h m.instruction n m.body rest e;
       first = places.0;
       second = places.1;
     }
-
--- and numbers behind the ten are behind them
-pub behind : (i : ℕ) (p : Places) (rest : List ℕ) → drop 10 (fields_of i p ++ rest) ≡ rest
-behind i places.Empty rest = refl
-behind i (places.Session major minor user database) rest = refl
-behind i (places.Text t) rest = refl
-behind i (places.Statement format t) rest = refl
-behind i (places.Coded code t) rest = refl
-behind i (places.Options pairs count) rest = refl
-behind i (places.Item class kind url.Absent part) rest = refl
-behind i (places.Item class kind (url.At u) part) rest = refl
 
 -- the body that ten numbers mean
 body_told : List ℕ → List ℕ → Body

@@ -8,19 +8,21 @@ use native.Mathlib.Omega.{arith}
 use lib.Dec.{ltb}
 use lib.ListN.{length, take, drop, length-take, take-append-drop}
 use borrow.Author.Tests.{lt-ltb, le-ltb, ltb-true, ltb-false}
-use Rattle.wire.specs.Bytes.{IsBytes, if}
+use Rattle.std.specs.Prelude.{Option, Some, None, Result, Ok, Err}
+use Rattle.std.proofs.lemmas.Bool.Decides.{nat_tests}
+use Rattle.wire.specs.declared.Refusal.{Refusal}
+use Rattle.wire.specs.Bytes.{IsBytes}
 use Rattle.wire.specs.Calls.{Done}
 use Rattle.wire.specs.Every.{Every}
 use Rattle.wire.specs.Refusals.{number_of}
 use Rattle.wire.proofs.Calls.{GoesFor, all-right_for, holds_after_for}
 use Rattle.sedna.specs.Message.{Message}
-use Rattle.wire.proofs.Branches.{apart, either}
+use Rattle.wire.proofs.Branches.{either}
 use Rattle.sedna_laws.proofs.Bytes.{bytes-behind, bytes-part}
 use Rattle.sedna_laws.proofs.Exact.{exact}
 use Rattle.sedna_read.specs.Meaning.{meaning}
 use Rattle.sedna_read.specs.Reading.{Answer}
 use Rattle.sedna_read.specs.declared.Reading.{Reading}
-use Rattle.sedna_read.specs.declared.Reading.TheVariants as read
 use Rattle.grammar.specs.Conversation.{Whole}
 use Rattle.session.specs.declared.Session.{Session}
 use Rattle.session.specs.Step.{fresh_session, stepped, closed_of}
@@ -28,7 +30,6 @@ use Rattle.session_laws.proofs.Follows.{Follows, fresh_follows, begins, whole-cl
 use Rattle.records_printed.specs.Answer.{number_in, after_reading, answered}
 use Rattle.records_printed.specs.declared.Answered.{Answered}
 use Rattle.records.specs.declared.Head.{Head}
-use Rattle.records.specs.declared.Head.TheVariants as head
 use Rattle.records.specs.Record.{Record, head_of, record_of, Front, behind, front, from_front, records_up_to, records}
 use Rattle.records_printed.specs.Transcript.{record_call, after, says_closed, says_open, says_damaged, last_line, printed}
 use Rattle.demands.specs.Demand3.{Form, Offer, RightAnswer, step}
@@ -55,25 +56,21 @@ numbered (Answer.accepted m n) = 0
 abbrev NoneLeft : Record → Type 0
 NoneLeft r = (m : Message) (n : ℕ) → read_as r ≡ Answer.accepted m n → length r.payload ≤ n
 
+-- then a message that was read is the whole payload
+whole-read : (r : Record) → IsBytes r.payload → NoneLeft r → (m : Message) (n : ℕ) → read_as r ≡ Answer.accepted m n → read_as r ≡ Answer.accepted m (length r.payload)
+whole-read r b all m n e = grind (arith, read-within r b m n e, all m n e)
+
 -- from what is right for the offer to what is right for the record
 right-number : {before : List Message} (r : Record) (b : IsBytes r.payload) {a : Answer} → RightAnswer before (offer r b) a → NoneLeft r
     → RightNumber before r (numbered a) × (accepting before r (numbered a) ≡ demand.accepting before (offer r b) a)
 right-number r b (RightAnswer.unread e) all = (RightNumber.unread e, rw e)
-right-number r b (RightAnswer.out_of_order {m} {n} {r = x} e never nine) all =
-    let w = read-within r b m n e in
-    let q = all m n e in
-    let l : n ≡ length r.payload = omega arith in
-    rw nine (RightNumber.out_of_order (e ∙ ap (Answer.accepted m) l) never, rw e)
-right-number r b (RightAnswer.accepted {m} {n} e goes_on) all =
-    let w = read-within r b m n e in
-    let q = all m n e in
-    let l : n ≡ length r.payload = omega arith in
-    (RightNumber.accepted (e ∙ ap (Answer.accepted m) l) goes_on, rw e)
+right-number r b (RightAnswer.out_of_order {m} {n} {r = x} e never nine) all = rw nine (RightNumber.out_of_order (whole-read r b all m n e) never, rw e)
+right-number r b (RightAnswer.accepted {m} {n} e goes_on) all = (RightNumber.accepted (whole-read r b all m n e) goes_on, rw e)
 
 -- an answer by places has the number of what it means
-number-meant : (s : List ℕ) (x : Reading) → number_in x ≡ numbered (meaning s x)
-number-meant s (read.Refused r) = refl
-number-meant s (read.Message i places n) = refl
+number-meant : (s : List ℕ) (x : Result Reading Refusal) → number_in x ≡ numbered (meaning s x)
+number-meant s (Err r) = refl
+number-meant s (Ok m) = refl
 
 -- where nothing is left over, a record is answered what the step answers
 answered-offered : (s : Session) (r : Record) (b : IsBytes r.payload) → NoneLeft r
@@ -110,7 +107,7 @@ module _ (before : List Message) (s : Session) (r : Record) (b : IsBytes r.paylo
   answered_so = by (read_as r) refl
     where
       by : (a : Answer) → read_as r ≡ a → Stands (answered s r)
-      by (Answer.refused x) e = offered (λ m n q. apart (cc))
+      by (Answer.refused x) e = offered (λ m n q. cc)
       by (Answer.accepted m n) e = left (ltb n (length r.payload)) refl
         where
           left : (t : Bool) → ltb n (length r.payload) ≡ t → Stands (answered s r)
@@ -132,14 +129,15 @@ bytes_rest s n h = bytes-behind (take n s) (drop n s) (rw (take-append-drop n s)
 
 front_bytes : (s : List ℕ) → IsBytes s → (r : Record) (rest : List ℕ) → front s ≡ Front.sound r rest → IsBytes r.payload × IsBytes rest
 unfolding front
-front_bytes [] h r rest e = apart (cc)
+front_bytes [] h r rest e = cc
 front_bytes (b ∷ s) h r rest e = by (head_of (b ∷ s)) e
   where
-    by : (x : Head) → behind (drop 6 (b ∷ s)) x ≡ Front.sound r rest → IsBytes r.payload × IsBytes rest
-    by head.Damaged e = apart (cc)
-    by (head.Record side n) e =
-        either (ltb (length (drop 6 (b ∷ s))) n) _ _ e (λ cut p. apart (cc)) λ whole p.
-        let q : record_of side (take n (drop 6 (b ∷ s))) ≡ r = cc in
+    by : (x : Option Head) → behind (drop 6 (b ∷ s)) x ≡ Front.sound r rest → IsBytes r.payload × IsBytes rest
+    by None e = cc
+    by (Some m) e =
+        let n = m.len in
+        either (ltb (length (drop 6 (b ∷ s))) n) _ _ e (λ cut p. cc) λ whole p.
+        let q : record_of m.side (take n (drop 6 (b ∷ s))) ≡ r = cc in
         let z : drop n (drop 6 (b ∷ s)) ≡ rest = cc in
         let w : IsBytes (drop 6 (b ∷ s)) = bytes_rest (b ∷ s) 6 h in
         (subst (λ (r : Record). IsBytes r.payload) q (bytes-part (b ∷ s) 6 n h), subst IsBytes z (bytes_rest (drop 6 (b ∷ s)) n w))
@@ -155,38 +153,16 @@ payloads (suc most) s h = by (front s) refl (payloads most)
     by Front.damaged e more = tt
     by (Front.sound r rest) e more = let b = front_bytes s h r rest e in (b.0, more rest b.1)
 
--- the three last lines differ in length
-other : {P : Type 0} {a b : List ℕ} → a ≡ b → ¬ (length a ≡ length b) → P
-other e d = absurd (d (ap length e))
-
 -- the last line, by how the input ended and whether the session is closed
-module _ (whole : Type 0) (u : Session) (e : (closed_of u ≡ true) ↔ whole) where
-  not_whole : closed_of u ≡ false → ¬ whole
-  not_whole q w = let z = e.1 w in apart (cc)
+module _ (whole : Type 0) (u : Session) (e : (closed_of u ≡ true) ↔ whole) (d : Bool) where
+  says-closed : (last_line d u ≡ says_closed) ↔ ((d ≡ false) × whole)
+  says-closed = grind (arith, nat_tests)
 
-  says-closed : (d : Bool) → (last_line d u ≡ says_closed) ↔ ((d ≡ false) × whole)
-  says-closed true = (λ p. other p (λ l. omega arith), λ p. apart (cc))
-  says-closed false = by (closed_of u) refl
-    where
-      by : (c : Bool) → closed_of u ≡ c → (if c says_closed says_open ≡ says_closed) ↔ ((false ≡ false) × whole)
-      by true q = (λ p. (refl, e.0 q), λ p. refl)
-      by false q = (λ p. other p (λ l. omega arith), λ p. absurd (not_whole q p.1))
-
-  says_open_lem : (d : Bool) → (last_line d u ≡ says_open) ↔ ((d ≡ false) × ¬ whole)
-  says_open_lem true = (λ p. other p (λ l. omega arith), λ p. apart (cc))
-  says_open_lem false = by (closed_of u) refl
-    where
-      by : (c : Bool) → closed_of u ≡ c → (if c says_closed says_open ≡ says_open) ↔ ((false ≡ false) × ¬ whole)
-      by true q = (λ p. other p (λ l. omega arith), λ p. absurd (p.1 (e.0 q)))
-      by false q = (λ p. (refl, not_whole q), λ p. refl)
+  says_open_lem : (last_line d u ≡ says_open) ↔ ((d ≡ false) × ¬ whole)
+  says_open_lem = grind (arith, nat_tests)
 
 says-damaged : (d : Bool) (u : Session) → (last_line d u ≡ says_damaged) ↔ (d ≡ true)
-says-damaged true u = (λ p. refl, λ p. refl)
-says-damaged false u = (by (closed_of u), λ p. apart (cc))
-  where
-    by : (c : Bool) → if c says_closed says_open ≡ says_damaged → false ≡ true
-    by true p = other p (λ l. omega arith)
-    by false p = other p (λ l. omega arith)
+says-damaged d u = grind (arith, nat_tests)
 
 pub demand_3_transcript : Demand3Transcript
 unfolding printed

@@ -3,16 +3,15 @@
 --
 -- `Called` and the definitions behind it have the right sides of the contracts. For each call a record or a type says what right is, and
 -- `BaseXCalls`, at the end, that every call comes out right, whatever can be lent (`Lendable`).
-use Rattle.basex.specs.{Texts.strings as strings_bytes, declared.Found.TheVariants.Known, declared.Found.TheVariants.Unknown, declared.Reply.Reply}
-use Rattle.basex.specs.{Kinds.find_of, Kinds.listed, Kinds.is_full, Request.Request}
-use Rattle.basex.specs.Response.{Item, Response, item_bytes, ItemAllowed, Stands, error_of}
 use mathlib.Core.{Bool.Bool, Bool.true, Bool.false, List.List, List.[], List.◌∷◌, List.◌++◌, List.flatten, Logic.◌⊎◌, Path.◌≡◌}
-use Rattle.std.specs.Prelude.{ℕ, zero, suc, ◌+◌, ◌≤◌, ◌<◌}
+use Rattle.std.specs.Prelude.{Some, None, ℕ, zero, suc, ◌+◌, ◌≤◌, ◌<◌}
 use lib.{Dec.eqb, ListN.length, ListN.take, ListN.drop, ListN.get_or}
 use Rattle.wire.specs.{Bytes.if, Bytes.splice, Call.in_room, Call.output_after, Fields.Got, declared.Refusal.Refusal, Refusals.number_of}
 use Rattle.basex_string.specs.Strings.{string}
 use Rattle.basex_string.specs.Scan as strings
+use Rattle.basex.specs.{Texts.strings as strings_bytes, declared.Reply.Reply, Kinds.find_of, Kinds.listed, Kinds.is_full, Request.Request}
 use Rattle.basex.specs.Request as request
+use Rattle.basex.specs.Response.{Item, Response, item_bytes, ItemAllowed, Stands, error_of}
 use Rattle.basex.specs.Response as response
 use Rattle.basex_request.specs.{Calls.padded, Reading.kind_of, Reading.texts_of}
 use Rattle.basex_request.specs.Reading as requests
@@ -203,12 +202,12 @@ pub data ErrorDue (kind : ℕ) (numbers : List ℕ) (lent : ℕ) : Refusal → T
   -- 10 ahead of anything: fewer than six are given
   too_few : length numbers < 6 → ErrorDue kind numbers lent Refusal.NoRoom
   -- 2: a kind that is none
-  unknown : 6 ≤ length numbers → find_of kind ≡ Unknown → ErrorDue kind numbers lent Refusal.UnknownInstruction
+  unknown : 6 ≤ length numbers → find_of kind ≡ None → ErrorDue kind numbers lent Refusal.UnknownInstruction
   -- "Status above 01: 8."
-  bad_status : 6 ≤ length numbers → (n : ℕ) (reply : Reply) → find_of kind ≡ Known n reply → 1 < (response_numbers numbers).status
+  bad_status : 6 ≤ length numbers → (n : ℕ) (reply : Reply) → find_of kind ≡ Some (n, reply) → 1 < (response_numbers numbers).status
       → ErrorDue kind numbers lent Refusal.ValueNotAllowed
   -- 10, last: there is an error, and fewer than two are lent
-  no_room : 6 ≤ length numbers → (n : ℕ) (reply : Reply) → find_of kind ≡ Known n reply → (response_numbers numbers).status ≡ 1 → lent < 2
+  no_room : 6 ≤ length numbers → (n : ℕ) (reply : Reply) → find_of kind ≡ Some (n, reply) → (response_numbers numbers).status ≡ 1 → lent < 2
       → ErrorDue kind numbers lent Refusal.NoRoom
 
 -- the request did not fail: 0, and nothing is told
@@ -248,7 +247,7 @@ item_numbers t = record { id = get_or t 0 0; uri = get_or t 1 0; text = get_or t
 pub record Lists (kind : ℕ) (full : Bool) : Type 0 where
   pub strings : ℕ
   pub reply : Reply
-  pub known : find_of kind ≡ Known strings reply
+  pub known : find_of kind ≡ Some (strings, reply)
   pub list : listed reply ≡ true
   pub uris : is_full reply ≡ full
 
@@ -258,8 +257,8 @@ pub data ItemDue (kind : ℕ) (s : List ℕ) (numbers : ℕ) : Refusal → Type 
   -- 1 for no byte, whatever the kind
   no_byte : s ≡ [] → ItemDue kind s numbers Refusal.MoreBytes
   -- 2 for a kind that is none, and 8 for one without items, at the first byte, whatever it is
-  unknown : 0 < length s → find_of kind ≡ Unknown → ItemDue kind s numbers Refusal.UnknownInstruction
-  unlisted : 0 < length s → (n : ℕ) (reply : Reply) → find_of kind ≡ Known n reply → listed reply ≡ false → ItemDue kind s numbers Refusal.ValueNotAllowed
+  unknown : 0 < length s → find_of kind ≡ None → ItemDue kind s numbers Refusal.UnknownInstruction
+  unlisted : 0 < length s → (n : ℕ) (reply : Reply) → find_of kind ≡ Some (n, reply) → listed reply ≡ false → ItemDue kind s numbers Refusal.ValueNotAllowed
   -- 1: an item, or the 00 behind the last, is begun and not whole
   more : (full : Bool) → Lists kind full → Begun (Encoded (NextAllowed full) next_bytes) s → ItemDue kind s numbers Refusal.MoreBytes
   -- "a type id (7-15 or 32-83, else 8)"

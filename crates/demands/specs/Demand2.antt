@@ -4,16 +4,15 @@
 -- Of each protocol, and of cutting and joining, a record says so; `Demand2`, at the end, is all three. Published formats (`Published`, `encode`, `string`)
 -- and cuts know no reader and no joiner.
 use mathlib.Core.{Bool.true, List.List, List.[], List.◌∷◌, List.◌++◌, List.map, List.flatten, Logic.◌↔◌, Option.some, Path.◌≡◌}
-use Rattle.std.specs.Prelude.{ℕ, suc, ◌+◌, ◌-◌, ◌≤◌, ◌<◌}
+use Rattle.std.specs.Prelude.{Some, Ok, Err, ℕ, suc, ◌+◌, ◌-◌, ◌≤◌, ◌<◌}
 use lib.{Dec.T, Dec.leb, ListN.length, ListN.take, ListN.drop, ListN.get_elem?}
-use Rattle.wire.specs.{Bytes.IsBytes, Bytes.if, Bytes.splice, Call.output_after, Every.Every, Fields.Got}
-use Rattle.wire.specs.{declared.Refusal.TheVariants.NoEncoding, declared.Counted.Counted}
+use Rattle.wire.specs.{Bytes.IsBytes, Bytes.if, Bytes.splice, Call.output_after, Every.Every, Fields.Got, declared.Refusal.TheVariants.NoEncoding}
 use Rattle.sedna.specs.{declared.Side.Side, declared.Side.TheVariants.Client, declared.Side.TheVariants.Server, declared.Entry.Entry}
 use Rattle.sedna.specs.{Allowed.format_allowed, Allowed.allowed, Encode.body_bytes, Encode.encode}
 use Rattle.sedna.specs.{Message.Url, Message.Pair, Message.Body, Message.Message, Message.message, Names.LongQueryEnd}
 use Rattle.sedna.specs.{Published.Published, Published.Front, Published.Writable, Table.InTable}
-use Rattle.sedna_read.specs.{declared.Places.Places, declared.Reading.Reading, Meaning.meaning, Meaning.option_in}
-use Rattle.sedna_read.specs.Places.{place, located, option_at}
+use Rattle.sedna_read.specs.{declared.Places.Places, Meaning.meaning, Meaning.option_in}
+use Rattle.sedna_read.specs.Places.{place, located, option_at, read_as_message}
 use Rattle.sedna_read.specs.Reading.{Answer, reading}
 use Rattle.sedna_write.specs.{Pairs.given, Pairs.pairs_of, Pairs.options_written, Writing.written}
 use Rattle.sedna_laws.specs.Pieces.{Bounded}
@@ -27,10 +26,10 @@ use Rattle.parts_laws.specs.{Filled.Filled, Rejoined.UrlFits, Rejoined.Rejoined}
 use Rattle.parts_laws.specs.ThroughBytes.{Uncut, Sendable, Roomy, Returned}
 use Rattle.basex_string.specs.Scan as strings
 use Rattle.basex_string.specs.{Answers.output_read, Strings.string}
-use Rattle.basex.specs.{declared.Found.TheVariants.Known, declared.Reply.Reply, Kinds.find_of, Request.Request, Response.Response, Response.Stands}
+use Rattle.basex.specs.{declared.Reply.Reply, Kinds.find_of, Request.Request, Response.Response, Response.Stands}
 use Rattle.basex.specs.Request as request
 use Rattle.basex.specs.Response as response
-use Rattle.basex_request.specs.{declared.Requested.TheVariants.Read, Calls.padded, Calls.cut, Reading.kind_of, Reading.texts_of, Reading.requested}
+use Rattle.basex_request.specs.{Calls.padded, Calls.cut, Reading.kind_of, Reading.texts_of, Reading.requested, Reading.read_as_request}
 use Rattle.basex_request.specs.Reading as requests
 use Rattle.basex_request.specs.Writing as requesting
 use Rattle.basex_response.specs.Reading as responses
@@ -59,10 +58,10 @@ pub record Sedna : Type 0 where
   -- and as many are told as there are
   pub options_counted : (side : Side) (s : List ℕ) (i n : ℕ) (ps : List Pair)
       → reading side s ≡ Answer.accepted (message i (Body.options ps)) n
-      → located (reading side s) ≡ Reading.Message i (Places.Options (place 8 (n - 8)) (length ps)) n
+      → located (reading side s) ≡ read_as_message i (Places.Options (place 8 (n - 8)) (length ps)) n
   -- n bytes are written exactly when a side sends m, its encoding has n bytes and they fit; by `Writes` they are the encoding.
   -- What a function is handed is u8, u32 and slices of bytes: `Bounded` is no condition on a caller
-  pub writing_exact : (room : ℕ) (m : Message) → Bounded m.body → (n : ℕ) → (written room m ≡ Counted.Count n) ↔ Writable room m n
+  pub writing_exact : (room : ℕ) (m : Message) → Bounded m.body → (n : ℕ) → (written room m ≡ Ok n) ↔ Writable room m n
   -- options, which the writer takes as three lists: lists that belong together are written as the message with those options ..
   pub options-written : (room i : ℕ) (ids lengths values : List ℕ) → given ids lengths values ≡ true
       → options_written room i ids lengths values ≡ written room (message i (Body.options (pairs_of ids lengths values)))
@@ -76,10 +75,10 @@ pub record Sedna : Type 0 where
       → (ids : List ℕ) × (lengths : List ℕ) × (values : List ℕ) × (given ids lengths values ≡ true) × (pairs_of ids lengths values ≡ ps)
   -- what was written reads as the same message
   pub read_written : (side : Side) (out : List ℕ) (m : Message) (n : ℕ) → Published side m
-      → written (length out) m ≡ Counted.Count n → reading side (output_after (Counted.Count n) out 0 (encode m)) ≡ Answer.accepted m n
+      → written (length out) m ≡ Ok n → reading side (output_after (Ok n) out 0 (encode m)) ≡ Answer.accepted m n
   -- writing yields the same bytes back
   pub write_read : (side : Side) (s : List ℕ) → IsBytes s → (m : Message) (n : ℕ) → reading side s ≡ Answer.accepted m n → (out : List ℕ) → n ≤ length out
-      → (written (length out) m ≡ Counted.Count n) × (output_after (Counted.Count n) out 0 (encode m) ≡ take n s ++ drop n out)
+      → (written (length out) m ≡ Ok n) × (output_after (Ok n) out 0 (encode m) ≡ take n s ++ drop n out)
   -- "read as 0 to 4,294,967,295": of a body of at most 10,240, being bytes (`Published.bytes`) says that its ints are at most 4,294,967,295,
   -- and its other numbers and the elements of its texts below 256
   pub bounds : (b : Body) → length (body_bytes b) ≤ 10240 → IsBytes (body_bytes b) ↔ Bounded b
@@ -122,14 +121,14 @@ pub record Parts : Type 0 where
   -- "(u above 10,227: 11)": then an ItemStart with the URL has no encoding, not even with no text, and there is no cut to count
   pub url_fits : (class kind : ℕ) (url : Url) → UrlFits url ↔ (length (body_bytes (Body.item class kind url [])) ≤ 10240)
   pub url_counted : (class kind : ℕ) (url text : List ℕ) → url_parts (length text) (length url)
-      ≡ if (leb (length url) 10227) (Counted.Count (length (cut_typed_item class kind (Url.present url) text))) (Counted.Refused NoEncoding)
+      ≡ if (leb (length url) 10227) (Ok (length (cut_typed_item class kind (Url.present url) text))) (Err NoEncoding)
   pub typed_rejoined : (class kind : ℕ) (url : Url) (text : List ℕ) → allowed (Body.item class kind url text) ≡ true → (e : Ending) (d : List ℕ)
       → Rejoined Open.TypedItem (cut_typed_item class kind url text ++ (ending e ∷ [])) (class ∷ kind ∷ []) text d
   -- through bytes: part k of a cut that was written and read back, by the places that the reader tells, is the cut's message k, which is what
   -- `parts_join::join` is given
   pub part_read : (side : Side) (cut : List Message) → Every (Published side) cut → (k : ℕ) (m : Message) → get_elem? cut k ≡ some m
-      → (out : List ℕ) (n : ℕ) → part_written true true cut k (length out) ≡ Counted.Count n
-      → meaning (output_after (Counted.Count n) out 0 (encode m)) (located (reading side (output_after (Counted.Count n) out 0 (encode m))))
+      → (out : List ℕ) (n : ℕ) → part_written true true cut k (length out) ≡ Ok n
+      → meaning (output_after (Ok n) out 0 (encode m)) (located (reading side (output_after (Ok n) out 0 (encode m))))
       ≡ Answer.accepted m n
   -- all of it at once: what is cut, written part by part into outputs with room, read by its side, and joined in order is returned where it fits the
   -- buffer; where it does not, 12. Outputs of 10,248 bytes always have room
@@ -156,14 +155,14 @@ pub record BaseX : Type 0 where
       → requests.reading (take (length s - length rest) s ++ other) ≡ Got.got q other
   -- what was written reads as the same request
   pub request_read_written : (q : Request) → request.Published q → (out : List ℕ) → length (request.encode q) ≤ length out
-      → (requesting.written (length out) (kind_of q) (padded (texts_of q)) ≡ Counted.Count (length (request.encode q)))
+      → (requesting.written (length out) (kind_of q) (padded (texts_of q)) ≡ Ok (length (request.encode q)))
       × (requests.reading
       (output_after (requesting.written (length out) (kind_of q) (padded (texts_of q))) out 0 (requesting.bytes_of (kind_of q) (padded (texts_of q))))
       ≡ Got.got q (drop (length (request.encode q)) out))
   -- writing yields the same bytes back: what a call of reading told, of the texts in its output, is written as the n bytes that it read
-  pub request_write_read : (s out : List ℕ) (kind a b c d n : ℕ) → requested (length s) (length out) (requests.reading s) ≡ Read kind a b c d n → (to : List ℕ)
-      → n ≤ length to
-      → (requesting.written (length to) kind (cut (output_read requests.text_bytes out 0 (requests.reading s)) a b c d) ≡ Counted.Count n)
+  pub request_write_read : (s out : List ℕ) (kind a b c d n : ℕ)
+      → requested (length s) (length out) (requests.reading s) ≡ read_as_request kind a b c d n → (to : List ℕ) → n ≤ length to
+      → (requesting.written (length to) kind (cut (output_read requests.text_bytes out 0 (requests.reading s)) a b c d) ≡ Ok n)
       × (output_after (requesting.written (length to) kind (cut (output_read requests.text_bytes out 0 (requests.reading s)) a b c d)) to 0
       (requesting.bytes_of kind (cut (output_read requests.text_bytes out 0 (requests.reading s)) a b c d)) ≡ splice to 0 (take n s))
   -- a response is read, knowing the request's first byte, exactly where it is published for it and its encoding stands in front
@@ -173,12 +172,12 @@ pub record BaseX : Type 0 where
   pub response_behind : (kind : ℕ) (s : List ℕ) (r : Response) (rest other : List ℕ) → responses.reading kind s ≡ Got.got r rest
       → responses.reading kind (take (length s - length rest) s ++ other) ≡ Got.got r other
   -- item by item and then the rest, a published response is written as its encoding ..
-  pub response_written : (kind n : ℕ) (reply : Reply) → find_of kind ≡ Known n reply → (r : Response) → response.Published reply r → (out : List ℕ) (at : ℕ)
+  pub response_written : (kind n : ℕ) (reply : Reply) → find_of kind ≡ Some (n, reply) → (r : Response) → response.Published reply r → (out : List ℕ) (at : ℕ)
       → at + length (response.encode reply r) ≤ length out
       → responded kind r (record { bytes = out; at = at })
       ≡ record { bytes = splice out at (response.encode reply r); at = at + length (response.encode reply r) }
   -- .. which reads as the same response
-  pub response_read_written : (kind n : ℕ) (reply : Reply) → find_of kind ≡ Known n reply → (r : Response) → response.Published reply r → (rest : List ℕ)
+  pub response_read_written : (kind n : ℕ) (reply : Reply) → find_of kind ≡ Some (n, reply) → (r : Response) → response.Published reply r → (rest : List ℕ)
       → responses.reading kind (response.encode reply r ++ rest) ≡ Got.got r rest
   -- writing yields the same bytes back
   pub response_write_read : (kind : ℕ) (s : List ℕ) (r : Response) (rest : List ℕ) → responses.reading kind s ≡ Got.got r rest → (out : List ℕ)

@@ -1,7 +1,7 @@
 -- Document 01, "Worked examples (P: proved, as one table)".
 use mathlib.Core.{List.List, List.[], List.◌∷◌, List.map, Path.◌≡◌}
-use Rattle.std.specs.Prelude.{ℕ, ◌-◌, length, take}
-use Rattle.wire.specs.{Call.put_at, Call.in_room, Fields.Got, Refusals.number_of, declared.Counted.Counted}
+use Rattle.std.specs.Prelude.{Result, Ok, Err, ℕ, ◌-◌, length, take}
+use Rattle.wire.specs.{Call.put_at, Call.in_room, Fields.Got, declared.Refusal.Refusal, Refusals.number_of}
 use Rattle.sedna.specs.{declared.Side.Side, Message.Body, Message.Message, Names.StartUp, Names.Execute}
 use Rattle.sedna_read.specs.Reading.{Answer, reading}
 use Rattle.basex_string.specs.Scan as strings
@@ -25,9 +25,9 @@ sedna_reply (Answer.refused r) = Reply.number (number_of r)
 sedna_reply (Answer.accepted m n) = Reply.message m n
 
 -- what stands in front of the output, where so many bytes were written
-abbrev pub written_reply : List ℕ → Counted → Reply
-written_reply out (Counted.Refused r) = Reply.number (number_of r)
-written_reply out (Counted.Count n) = Reply.bytes (take n out)
+abbrev pub written_reply : List ℕ → Result ℕ Refusal → Reply
+written_reply out (Err r) = Reply.number (number_of r)
+written_reply out (Ok n) = Reply.bytes (take n out)
 
 abbrev pub read_reply : ℕ → Got (List ℕ) → Reply
 read_reply n (Got.refused r) = Reply.number (number_of r)

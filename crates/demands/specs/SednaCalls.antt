@@ -1,9 +1,9 @@
 -- What `kdr_read` and `kdr_option` answer and leave, and what the calls that write a message answer, turned back into what it means by the header's
 -- names. What `answered` is applied to, and what is named as left, are the right sides of the contracts; those of the session's calls are in Exports.antt.
 use mathlib.Core.{Bool.Bool, Bool.false, List.List, Option.Option, Option.none, Option.some, Path.◌≡◌}
-use Rattle.std.specs.Prelude.{ℕ, ◌≤◌, ◌<◌, length, drop}
+use Rattle.std.specs.Prelude.{Result, Ok, Err, ℕ, ◌≤◌, ◌<◌, length, drop}
 use Rattle.std.proofs.Math.ListN.{get_elem?}
-use Rattle.wire.specs.{Bytes.IsBytes, Call.output_after, declared.Refusal.Refusal, Refusals.number_of, declared.Counted.Counted}
+use Rattle.wire.specs.{Bytes.IsBytes, Call.output_after, declared.Refusal.Refusal, Refusals.number_of}
 use Rattle.sedna.specs.{declared.Shape.Shape, Encode.encode, Message.Pair, Message.Body, Message.Message, Message.message}
 use Rattle.sedna_read.specs.{Meaning.option_in, Places.option_at, Reading.Answer}
 use Rattle.sedna_write.specs.{Pairs.given, Pairs.options_message, Pairs.options_written, Writing.judgement}
@@ -43,9 +43,9 @@ OptionCalled bytes start length' k lent o =
     (option_fields_after (option_at k start (slice bytes start length')) lent)
 
 -- what writing answers, as counts and refusals
-abbrev pub written_as : Counted → Answered
-written_as (Counted.Count n) = Answered.count n
-written_as (Counted.Refused r) = Answered.refusal (number_of r)
+abbrev pub written_as : Result ℕ Refusal → Answered
+written_as (Ok n) = Answered.count n
+written_as (Err r) = Answered.refusal (number_of r)
 
 pub record SednaCalls : Type 0 where
   -- ten numbers mean one message

@@ -13,106 +13,83 @@ mod item;
 mod value;
 
 use parts_join::Answer;
-use sedna_value::Valued;
+use sedna_instant::Instant;
+use sedna_value::Value;
+use std::io::{self, Write};
+use text_lines::answers::{Answers, each_line};
 use text_lines::cut::{behind, front};
 use text_lines::input::asks;
-use text_lines::parse::{Byte, Number};
-use text_lines::print::{decimal, say};
-use text_values::say_refusal;
-use value::Last;
+use text_lines::parse::{decimal, decimal_byte};
 use wire::{Refusal, first};
 
 const MOST: usize = 32768;
 
-fn refused(last: Last, r: Refusal) -> Last {
-    say_refusal(r);
-    last
+// What the item means that was sent; nothing where the end did not finish one.
+fn meant(kind: u8, text: &[u8]) -> Result<Option<Value>, Refusal> {
+    // An array: no heap, as in the library.
+    let mut buffer = [0u8; MOST];
+    match item::sent(&mut buffer, kind, text)? {
+        Answer::TypedItem { class, kind, len } => {
+            Ok(Some(sedna_value::value_of(class, kind, first(&buffer, len))?))
+        }
+        _ => Ok(None),
+    }
 }
 
 // Sends the item and prints what it means.
-fn sent(last: Last, kind: u8, text: &[u8]) -> Last {
-    let mut buffer = [0u8; MOST];
-    say(b": ");
-    decimal(item::messages(text) as u64);
-    say(b" messages, ");
-    match item::sent(&mut buffer, kind, text) {
-        Answer::TypedItem { class, kind, len } => {
-            match sedna_value::value_of(class, kind, first(&buffer, len)) {
-                Valued::Is(v) => value::shown(last, v),
-                Valued::Refused(r) => refused(last, r),
-            }
-        }
-        Answer::Refused(r) => refused(last, r),
-        _ => last,
+fn sent<W: Write>(to: &mut W, last: &mut Option<Instant>, kind: u8, text: &[u8]) -> io::Result<()> {
+    let n = item::messages(text);
+    write!(to, ": {n} messages, ")?;
+    match meant(kind, text) {
+        Ok(Some(value)) => value::shown(to, last, value),
+        Ok(None) => Ok(()),
+        Err(r) => text_values::refusal(to, r),
     }
 }
 
-// The number behind a star; MOST + 1 where there is none.
-fn zeros(word: &[u8]) -> usize {
-    match text_lines::parse::decimal(behind(word, b'*')) {
-        Number::Not => MOST + 1,
-        Number::Is(n) => n as usize,
-    }
-}
-
-fn unread(last: Last) -> Last {
-    say(b" ?");
-    last
-}
-
-// Zeros and the rest of the text, as far as there is room.
-fn text(last: Last, kind: u8, zeros: usize, rest: &[u8]) -> Last {
-    let mut text = [b'0'; MOST];
-    if MOST < zeros {
-        return unread(last);
-    }
-    if MOST - zeros < rest.len() {
-        return unread(last);
-    }
-    let end = zeros + rest.len();
-    wire::put_bytes(&mut text, zeros, rest);
-    sent(last, kind, first(&text, end))
-}
-
-fn answered(last: Last, line: &[u8]) -> Last {
-    let Byte::Is(kind) = text_lines::parse::decimal_byte(front(line, b' ')) else {
-        return unread(last);
-    };
+// The type, how many zeros stand in front of the text, and the rest of it.
+fn asked(line: &[u8]) -> Option<(u8, usize, &[u8])> {
+    let kind = decimal_byte(front(line, b' '))?;
     let all = behind(line, b' ');
-    if all.len() != 0 && all[0] == b'*' {
-        return text(last, kind, zeros(front(all, b' ')), behind(all, b' '));
-    }
-    text(last, kind, 0, all)
-}
-
-fn show(last: Last, line: &[u8]) -> Last {
-    say(line);
-    if asks(line) {
-        return answered(last, line);
-    }
-    last
-}
-
-fn next_line(last: Last) -> Last {
-    let mut buffer = io::buffer();
-    let n = text_lines::input::line(&mut buffer);
-    if n == 0 {
-        return Last::End;
-    }
-    let next = show(last, front(first(&buffer, n), b'\n'));
-    say(b"\n");
-    next
-}
-
-// A proved loop has to end: this one counts down from a number that no input uses up.
-fn main() {
-    let mut turns = u64::MAX;
-    let mut last = Last::Nothing;
-    while turns > 0 {
-        last = next_line(last);
-        if let Last::End = last {
-            return;
+    match all {
+        [b'*', ..] => {
+            let zeros = decimal(behind(front(all, b' '), b'*'))?;
+            Some((kind, zeros as usize, behind(all, b' ')))
         }
-        turns -= 1;
+        _ => Some((kind, 0, all)),
     }
+}
+
+// The last instant that was printed.
+#[derive(Drop)]
+struct Expiry {
+    last: Option<Instant>,
+}
+
+impl Expiry {
+    fn asked<W: Write>(&mut self, to: &mut W, line: &[u8]) -> io::Result<()> {
+        let mut text = [b'0'; MOST];
+        match asked(line) {
+            Some((kind, zeros, rest)) if wire::has_room(MOST, zeros, rest.len()) => {
+                wire::put_bytes(&mut text, zeros, rest);
+                sent(to, &mut self.last, kind, first(&text, zeros + rest.len()))
+            }
+            _ => to.write_all(b" ?"),
+        }
+    }
+}
+
+impl Answers for Expiry {
+    fn answer<W: Write>(&mut self, to: &mut W, line: &[u8]) -> io::Result<()> {
+        to.write_all(line)?;
+        if asks(line) {
+            self.asked(to, line)?;
+        }
+        to.write_all(b"\n")
+    }
+}
+
+fn main(rt: HostRuntime) -> io::Result<()> {
+    let mut program = Expiry { last: None };
+    each_line(&mut rt.reader(), &mut io::writer(&rt), &mut program)
 }

@@ -1,42 +1,26 @@
 // A value as a person reads it.
-use sedna_instant::{Instant, Order, compare};
+use sedna_instant::{Instant, compare};
 use sedna_value::Value;
-use text_lines::print::say;
-use text_values::say_value;
+use std::cmp::Ordering;
+use std::io::{self, Write};
 
-// The instant that was read last, if any; or that the input has ended.
-#[derive(Clone, Copy)]
-pub enum Last {
-    Nothing,
-    Instant(Instant),
-    End,
+fn order<W: Write>(to: &mut W, order: Ordering) -> io::Result<()> {
+    let word = match order {
+        Ordering::Less => "earlier than",
+        Ordering::Equal => "the same as",
+        Ordering::Greater => "later than",
+    };
+    write!(to, ", {word} the instant before")
 }
 
-fn say_order(order: Order) {
-    match order {
-        Order::Earlier => say(b", earlier than the instant before"),
-        Order::Same => say(b", the same as the instant before"),
-        Order::Later => say(b", later than the instant before"),
-    }
-}
-
-fn say_instant(last: Last, at: Instant) {
-    say_value(Value::At(at));
-    if let Last::Instant(before) = last {
-        say_order(compare(at, before));
-    }
-}
-
-// Prints a value, and answers the instant that is the last one now.
-pub fn shown(last: Last, value: Value) -> Last {
-    match value {
-        Value::At(at) => {
-            say_instant(last, at);
-            Last::Instant(at)
+// Prints a value; an instant with how it lies to the last one, and it is the last one then.
+pub fn shown<W: Write>(to: &mut W, last: &mut Option<Instant>, value: Value) -> io::Result<()> {
+    text_values::value(to, value)?;
+    if let Value::At(at) = value {
+        if let Some(before) = *last {
+            order(to, compare(at, before))?;
         }
-        _ => {
-            say_value(value);
-            last
-        }
+        *last = Some(at);
     }
+    Ok(())
 }

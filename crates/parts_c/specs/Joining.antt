@@ -1,4 +1,6 @@
 -- Joining for programs in C and Rust: the caller keeps the assembly in the first seven numbers of what it lends.
+use Rattle.std.specs.Prelude.{Result, Ok, Err}
+use Rattle.std.specs.Prelude.{Option, Some, None}
 use mathlib.Core.{Bool.Bool, List.List, List.[], List.◌∷◌, List.◌++◌, Path.◌≡◌}
 use Rattle.std.specs.Prelude.{ℕ}
 use lib.{Dec.eqb, Dec.ltb, ListN.length, ListN.get_or, ListN.drop}
@@ -8,7 +10,6 @@ use Rattle.sedna.specs.Message.{Message}
 use Rattle.sedna_read.specs.{declared.Reading.Reading, Meaning.body_in}
 use Rattle.parts_join.specs.{declared.Answer.Answer, declared.Assembly.Assembly, declared.Joined.Joined, declared.Open.Open, Roles.label}
 use Rattle.parts_join.specs.Joining.{opened, joined, buffer_after}
-use Rattle.parts_c.specs.declared.joining.Meant.{Meant}
 use Rattle.sedna_c.specs.Codes.{side_reading}
 
 -- what is open: 0 nothing, 1 a statement, 2 an item up to 3.0, 3 one of 4.0
@@ -38,21 +39,21 @@ abbrev pub assembly_put : Assembly → List ℕ → List ℕ
 assembly_put a d = assembly_list a ++ drop 7 d
 
 -- numbers that no assembly has are none
-unfoldable pub meant_by : List ℕ → Meant
+unfoldable pub meant_by : List ℕ → Option Assembly
 meant_by d =
     if (ltb 3 (get_or d 0 0))
-    Meant.Nothing
+    None
     (if (ltb 1 (get_or d 1 0))
-    Meant.Nothing
+    None
     (if (ltb 1 (get_or d 3 0))
-    Meant.Nothing
+    None
     (if (ltb 255 (get_or d 4 0))
-    Meant.Nothing
+    None
     (if (ltb 255 (get_or d 5 0))
-    Meant.Nothing
+    None
     (if (ltb 255 (get_or d 6 0))
-    Meant.Nothing
-    (Meant.Is (assembly_in d)))))))
+    None
+    (Some (assembly_in d)))))))
 
 -- opening: 10 where seven numbers are not lent, 8 for what is none of the three
 abbrev pub open_code : ℕ → List ℕ → ℕ
@@ -63,23 +64,20 @@ abbrev pub open_after : ℕ → List ℕ → List ℕ
 open_after what d = if (ltb (length d) 7) d (if (eqb what 0) d (if (ltb 3 what) d (assembly_put (opened (open_of what)) d)))
 
 -- the bytes read, or the refusal
-abbrev pub answer_code : Answer → ℕ → ℕ
-answer_code Answer.Part n = n
-answer_code (Answer.Statement format len) n = n
-answer_code (Answer.Item len) n = n
-answer_code (Answer.TypedItem class kind len) n = n
-answer_code (Answer.Refused r) n = refusal_code r
+abbrev pub answer_code : Result Answer Refusal → ℕ → ℕ
+answer_code (Ok x) n = n
+answer_code (Err r) n = refusal_code r
 
 abbrev pub told_put : ℕ → ℕ → ℕ → ℕ → List ℕ → List ℕ
 told_put what len a b d = what ∷ len ∷ a ∷ b ∷ drop 4 d
 
 -- what is told: 0 for a part; 1 a statement, 2 an item, 3 one of 4.0, then its length, format or class, and type
-abbrev pub told_after : Answer → List ℕ → List ℕ
-told_after Answer.Part d = told_put 0 0 0 0 d
-told_after (Answer.Statement format len) d = told_put 1 len format 0 d
-told_after (Answer.Item len) d = told_put 2 len 0 0 d
-told_after (Answer.TypedItem class kind len) d = told_put 3 len class kind d
-told_after (Answer.Refused r) d = d
+abbrev pub told_after : Result Answer Refusal → List ℕ → List ℕ
+told_after (Ok Answer.Part) d = told_put 0 0 0 0 d
+told_after (Ok (Answer.Statement format len)) d = told_put 1 len format 0 d
+told_after (Ok (Answer.Item len)) d = told_put 2 len 0 0 d
+told_after (Ok (Answer.TypedItem class kind len)) d = told_put 3 len class kind d
+told_after (Err r) d = d
 
 -- a call's answer, and the lent memory after it
 pub record Outcome : Type 0 where
@@ -104,13 +102,13 @@ message_joined m n a d buffer told =
     let j : Joined = joined a (length buffer) m in
     record { code = answer_code j.answer n; assembly = assembly_put j.assembly d; buffer = buffer_after a buffer m; told = told_after j.answer told }
 
-abbrev pub reading_joined : Reading → Assembly → List ℕ → List ℕ → List ℕ → List ℕ → Outcome
-reading_joined (Reading.Refused r) a bytes d buffer told = unchanged r d buffer told
-reading_joined (Reading.Message i p n) a bytes d buffer told = message_joined (record { instruction = i; body = body_in bytes p }) n a d buffer told
+abbrev pub reading_joined : Result Reading Refusal → Assembly → List ℕ → List ℕ → List ℕ → List ℕ → Outcome
+reading_joined (Err r) a bytes d buffer told = unchanged r d buffer told
+reading_joined (Ok m) a bytes d buffer told = message_joined (record { instruction = m.instruction; body = body_in bytes m.places }) m.count a d buffer told
 
-abbrev pub meant_joined : Meant → Reading → List ℕ → List ℕ → List ℕ → List ℕ → Outcome
-meant_joined Meant.Nothing r bytes d buffer told = unchanged ValueNotAllowed d buffer told
-meant_joined (Meant.Is a) r bytes d buffer told = reading_joined r a bytes d buffer told
+abbrev pub meant_joined : Option Assembly → Result Reading Refusal → List ℕ → List ℕ → List ℕ → List ℕ → Outcome
+meant_joined None r bytes d buffer told = unchanged ValueNotAllowed d buffer told
+meant_joined (Some a) r bytes d buffer told = reading_joined r a bytes d buffer told
 
 -- 10 where seven numbers and four are not lent, 8 where the seven are no assembly's; then what reading refuses, then what joining does
 unfoldable pub outcome : List ℕ → List ℕ → ℕ → List ℕ → List ℕ → Outcome

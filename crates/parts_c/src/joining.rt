@@ -1,39 +1,30 @@
 // Joining: the caller keeps the assembly in seven numbers and lends them. They are what is open (0
 // nothing, 1 a statement, 2 an item up to 3.0, 3 one of 4.0), whether a part was taken, the bytes
 // held, whether a part found no room, format, class and type. The buffer stands beside them.
-ghost use Rattle.std.specs.Prelude.{◌≡◌, ◌≤◌, length};
-ghost use Rattle.parts_join.specs.Joining.{opened};
-ghost use Rattle.sedna_c.specs.Codes.{side_reading};
+ghost use Rattle.std.specs.Prelude.{None, Some, ◌≡◌, ◌==◌, ◌≤◌, ltb, length};
+ghost use Rattle.answer_c.specs.Codes.{counted_code};
+ghost use Rattle.wire.specs.Bytes.{if};
 ghost use Rattle.wire.specs.Call.{Gives};
-ghost use Rattle.parts_c.specs.Joining.{open_of, open_number, flag_of, assembly_put, meant_by, open_code, open_after, answer_code, told_put, told_after};
-ghost use Rattle.parts_c.specs.Joining.{reading_joined, outcome, JoinLeaves};
+ghost use Rattle.parts_c.specs.Joining.{open_of, open_number, assembly_put, meant_by, open_code, open_after, told_put, told_after};
+ghost use Rattle.parts_c.specs.Joining.{outcome, JoinLeaves};
 
-use answer_c::refusal_code;
+use answer_c::{counted_code, refusal_code};
 use parts_join::{Answer, Assembly, Label, Open};
-use sedna_c::sides::{Sender, sender_of};
+use sedna_c::sides::sender_of;
 use sedna_read::Reading;
 use wire::Refusal;
 
-// The assembly that seven numbers mean, or none.
-#[derive(Clone, Copy)]
-pub enum Meant {
-    Is(Assembly),
-    Nothing,
-}
-
-fn open_of(what: u64) -> Open
-    ensures { result ≡ open_of what }
+// Numbers, not enums: C lends them, and any number is judged.
+fn open_in(what: u64) -> Option<Open>
+    ensures { result ≡ if (ltb 3 what) None (Some (open_of what)) }
 {
-    if what == 1 {
-        return Open::Statement;
+    match what {
+        0 => Some(Open::Nothing),
+        1 => Some(Open::Statement),
+        2 => Some(Open::Item),
+        3 => Some(Open::TypedItem),
+        _ => None,
     }
-    if what == 2 {
-        return Open::Item;
-    }
-    if what == 3 {
-        return Open::TypedItem;
-    }
-    Open::Nothing
 }
 
 fn open_number(what: Open) -> u64
@@ -47,49 +38,36 @@ fn open_number(what: Open) -> u64
     }
 }
 
-fn flag(b: bool) -> u64
-    ensures { result ≡ flag_of b }
+fn flag_in(n: u64) -> Option<bool>
+    ensures { result ≡ if (ltb 1 n) None (Some (n == 1)) }
 {
-    if b { 1 } else { 0 }
+    match n {
+        0 => Some(false),
+        1 => Some(true),
+        _ => None,
+    }
 }
 
-fn meant_by(assembly: &[u64]) -> Meant
+fn byte_in(n: u64) -> Option<u8>
+    ensures { result ≡ if (ltb 255 n) None (Some n) }
+{
+    u8::try_from(n).ok()
+}
+
+#[tactic(auto, unfolding(crate::specs::Joining::meant_by))]
+fn meant_by(assembly: &[u64]) -> Option<Assembly>
     requires { 7 ≤ length assembly.now }
     ensures { result ≡ meant_by assembly.now }
 {
-    let what = assembly[0];
-    let begun = assembly[1];
-    let overflowed = assembly[3];
-    let format = assembly[4];
-    let class = assembly[5];
-    let kind = assembly[6];
-    if 3 < what {
-        return Meant::Nothing;
-    }
-    if 1 < begun {
-        return Meant::Nothing;
-    }
-    if 1 < overflowed {
-        return Meant::Nothing;
-    }
-    if 255 < format {
-        return Meant::Nothing;
-    }
-    if 255 < class {
-        return Meant::Nothing;
-    }
-    if 255 < kind {
-        return Meant::Nothing;
-    }
-    Meant::Is(Assembly {
-        what: open_of(what),
-        begun: begun == 1,
+    Some(Assembly {
+        what: open_in(assembly[0])?,
+        begun: flag_in(assembly[1])?,
         held: assembly[2] as usize,
-        overflowed: overflowed == 1,
+        overflowed: flag_in(assembly[3])?,
         label: Label {
-            format: format as u8,
-            class: class as u8,
-            kind: kind as u8,
+            format: byte_in(assembly[4])?,
+            class: byte_in(assembly[5])?,
+            kind: byte_in(assembly[6])?,
         },
     })
 }
@@ -98,28 +76,13 @@ fn put(assembly: &mut [u64], a: Assembly)
     requires { 7 ≤ length assembly.old }
     ensures { assembly.new ≡ assembly_put a assembly.old }
 {
-    let open = a.what;
-    let what = open_number(open);
-    let begun = flag(a.begun);
-    let overflowed = flag(a.overflowed);
-    assembly[0] = what;
-    assembly[1] = begun;
+    assembly[0] = open_number(a.what);
+    assembly[1] = u64::from(a.begun);
     assembly[2] = a.held as u64;
-    assembly[3] = overflowed;
-    assembly[4] = a.label.format as u64;
-    assembly[5] = a.label.class as u64;
-    assembly[6] = a.label.kind as u64;
-}
-
-fn opened(what: Open) -> Assembly
-    ensures { result ≡ opened what }
-{
-    match what {
-        Open::Nothing => Assembly::closed(),
-        Open::Statement => parts_join::open_statement(),
-        Open::Item => parts_join::open_item(),
-        Open::TypedItem => parts_join::open_typed_item(),
-    }
+    assembly[3] = u64::from(a.overflowed);
+    assembly[4] = u64::from(a.label.format);
+    assembly[5] = u64::from(a.label.class);
+    assembly[6] = u64::from(a.label.kind);
 }
 
 // Puts a fresh opening into the first seven numbers: 1 for a statement, 2 for an item up to 3.0, 3
@@ -130,88 +93,66 @@ pub fn kdr_open(assembly: &mut [u64], what: u64) -> u64
     if assembly.len() < 7 {
         return refusal_code(Refusal::NoRoom);
     }
-    if what == 0 {
-        return refusal_code(Refusal::ValueNotAllowed);
+    match open_in(what) {
+        None | Some(Open::Nothing) => refusal_code(Refusal::ValueNotAllowed),
+        Some(open) => {
+            put(assembly, Assembly::open(open));
+            0
+        }
     }
-    if 3 < what {
-        return refusal_code(Refusal::ValueNotAllowed);
-    }
-    let a = opened(open_of(what));
-    put(assembly, a);
-    0
 }
 
+// Four numbers, not a struct: C lends them.
 fn tell(told: &mut [u64], what: u64, len: usize, a: u8, b: u8)
     requires { 4 ≤ length told.old }
     ensures { told.new ≡ told_put what len a b told.old }
 {
     told[0] = what;
     told[1] = len as u64;
-    told[2] = a as u64;
-    told[3] = b as u64;
+    told[2] = u64::from(a);
+    told[3] = u64::from(b);
 }
 
-fn tell_answer(told: &mut [u64], answer: Answer)
+fn tell_answer(told: &mut [u64], answer: Result<Answer, Refusal>)
     requires { 4 ≤ length told.old }
     ensures { told.new ≡ told_after answer told.old }
 {
     match answer {
-        Answer::Part => tell(told, 0, 0, 0, 0),
-        Answer::Statement { format, len } => tell(told, 1, len, format, 0),
-        Answer::Item { len } => tell(told, 2, len, 0, 0),
-        Answer::TypedItem { class, kind, len } => tell(told, 3, len, class, kind),
-        Answer::Refused(_) => {}
+        Ok(Answer::Part) => tell(told, 0, 0, 0, 0),
+        Ok(Answer::Statement { format, len }) => tell(told, 1, len, format, 0),
+        Ok(Answer::Item { len }) => tell(told, 2, len, 0, 0),
+        Ok(Answer::TypedItem { class, kind, len }) => tell(told, 3, len, class, kind),
+        Err(_) => {}
     }
 }
 
-fn answer_code(answer: Answer, count: usize) -> u64
-    ensures { result ≡ answer_code answer count }
-{
-    match answer {
-        Answer::Part => count as u64,
-        Answer::Statement { .. } => count as u64,
-        Answer::Item { .. } => count as u64,
-        Answer::TypedItem { .. } => count as u64,
-        Answer::Refused(r) => refusal_code(r),
-    }
-}
-
-fn read_from(side: u8, bytes: &[u8]) -> Reading
-    ensures { result ≡ side_reading side bytes.now }
-{
-    match sender_of(side) {
-        Sender::Nobody => Reading::Refused(Refusal::ValueNotAllowed),
-        Sender::Is(s) => sedna_read::read(s, bytes),
-    }
-}
-
-fn join_read(
-    reading: Reading,
-    a: Assembly,
-    bytes: &[u8],
+// What `kdr_join` does, with its refusals as an `Err`.
+#[tactic(auto, unfolding(crate::specs::Joining::outcome, sedna_c::specs::Codes::side_reading))]
+fn join_lent(
     assembly: &mut [u64],
     buffer: &mut [u8],
+    side: u8,
+    bytes: &[u8],
     told: &mut [u64],
-) -> u64
-    requires { (7 ≤ length assembly.old) × (4 ≤ length told.old) }
-    ensures { JoinLeaves (reading_joined reading a bytes.now assembly.old buffer.old told.old)
-        result assembly.new buffer.new told.new }
+) -> Result<usize, Refusal>
+    ensures { JoinLeaves (outcome assembly.old buffer.old side bytes.now told.old)
+        (counted_code result) assembly.new buffer.new told.new }
 {
-    match reading {
-        Reading::Refused(r) => refusal_code(r),
-        Reading::Message {
-            instruction,
-            places,
-            count,
-        } => {
-            let j = parts_join::join(a, buffer, instruction, places, bytes);
-            let after = j.assembly;
-            let answer = j.answer;
-            put(assembly, after);
-            tell_answer(told, answer);
-            answer_code(answer, count)
-        }
+    if assembly.len() < 7 || told.len() < 4 {
+        return Err(Refusal::NoRoom);
     }
+    let a = meant_by(assembly).ok_or(Refusal::ValueNotAllowed)?;
+    let sender = sender_of(side).ok_or(Refusal::ValueNotAllowed)?;
+    let Reading {
+        instruction,
+        places,
+        count,
+    } = sedna_read::read(sender, bytes)?;
+    let joined = parts_join::join(a, buffer, instruction, places, bytes);
+    put(assembly, joined.assembly);
+    tell_answer(told, joined.answer);
+    joined.answer?;
+    Ok(count)
 }
 
 // Reads the message at the front of bytes, which side sent (1 is the client, 2 the server), and
@@ -227,17 +168,5 @@ pub fn kdr_join(
     ensures { JoinLeaves (outcome assembly.old buffer.old side bytes.now told.old)
         result assembly.new buffer.new told.new }
 {
-    if assembly.len() < 7 {
-        return refusal_code(Refusal::NoRoom);
-    }
-    if told.len() < 4 {
-        return refusal_code(Refusal::NoRoom);
-    }
-    match meant_by(assembly) {
-        Meant::Nothing => refusal_code(Refusal::ValueNotAllowed),
-        Meant::Is(a) => {
-            let reading = read_from(side, bytes);
-            join_read(reading, a, bytes, assembly, buffer, told)
-        }
-    }
+    counted_code(join_lent(assembly, buffer, side, bytes, told))
 }

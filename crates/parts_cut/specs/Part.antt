@@ -1,10 +1,11 @@
 -- How many parts a cut has, and what writing part k of it answers and leaves: "When writing or cutting: 2, 8, 11, 14, 10."
+use Rattle.std.specs.Prelude.{Result, Ok, Err}
+use Rattle.wire.specs.declared.Refusal.{Refusal}
 use mathlib.Core.{Bool.Bool, Bool.true, List.List, List.[], Option.Option, Option.none, Option.some}
 use Rattle.std.specs.Prelude.{ℕ, zero, suc, ◌+◌, ◌-◌, ◌/◌}
 use lib.{Dec.leb, ListN.length, ListN.get_elem?}
 use Rattle.wire.specs.{Bytes.if, Call.Writes}
 use Rattle.wire.specs.declared.Refusal.TheVariants.{ValueNotAllowed, NoEncoding, NoSuchPart}
-use Rattle.wire.specs.{declared.Counted.Counted, declared.Counted.TheVariants.Count, declared.Counted.TheVariants.Refused}
 use Rattle.sedna.specs.{Encode.encode, Allowed.format_allowed, Allowed.allowed, Message.Url, Message.Body, Message.Message}
 use Rattle.sedna_write.specs.Writing.{written}
 use Rattle.parts_cut.specs.Cut.{statement_room, part_room, cut_statement, cut_item, cut_typed_item}
@@ -31,17 +32,17 @@ abbrev pub typed_item_count : ℕ → ℕ
 typed_item_count n = item_parts_from 10232 n
 
 -- "10,227 - u with a URL of u bytes (u above 10,227: 11)"
-abbrev pub url_parts : ℕ → ℕ → Counted
-url_parts n url = if (leb url 10227) (Count (item_parts_from (10227 - url) n)) (Refused NoEncoding)
+abbrev pub url_parts : ℕ → ℕ → Result ℕ Refusal
+url_parts n url = if (leb url 10227) (Ok (item_parts_from (10227 - url) n)) (Err NoEncoding)
 
 -- "Parts count from 0 …; beyond the last: 14", then 10
-abbrev pub written_of : ℕ → Option Message → Counted
-written_of room none = Refused NoSuchPart
+abbrev pub written_of : ℕ → Option Message → Result ℕ Refusal
+written_of room none = Err NoSuchPart
 written_of room (some m) = written room m
 
 -- 8 for the values of the whole, then 11 for a URL that leaves no room, for whatever part; then the part
-abbrev pub part_written : Bool → Bool → List Message → ℕ → ℕ → Counted
-part_written allowed encodable cut k room = if allowed (if encodable (written_of room (get_elem? cut k)) (Refused NoEncoding)) (Refused ValueNotAllowed)
+abbrev pub part_written : Bool → Bool → List Message → ℕ → ℕ → Result ℕ Refusal
+part_written allowed encodable cut k room = if allowed (if encodable (written_of room (get_elem? cut k)) (Err NoEncoding)) (Err ValueNotAllowed)
 
 -- the part's bytes; none where there is no such part
 abbrev pub part_bytes : Option Message → List ℕ
@@ -50,14 +51,14 @@ part_bytes (some m) = encode m
 
 -- part k of a cut: what writing it answers, in an output of so many bytes, and what it writes
 pub record CutPart : Type 0 where
-  pub answer : ℕ → Counted
+  pub answer : ℕ → Result ℕ Refusal
   pub bytes : List ℕ
 
 abbrev pub cut_part : Bool → Bool → List Message → ℕ → CutPart
 cut_part allowed encodable cut k = record { answer = part_written allowed encodable cut k; bytes = part_bytes (get_elem? cut k) }
 
 -- the contract of a call that writes it in front of the output
-abbrev pub WritesPart : CutPart → List ℕ → Counted → List ℕ → Type 0
+abbrev pub WritesPart : CutPart → List ℕ → Result ℕ Refusal → List ℕ → Type 0
 WritesPart part out = Writes (part.answer (length out)) out 0 part.bytes
 
 -- of a statement: 8 for its format, and no 11

@@ -2,16 +2,18 @@
 // output. What is written is a part of the lent text; nothing is gathered on the way.
 #![tactic(auto)]
 
-ghost use Rattle.std.specs.Prelude.{◌≡◌, ◌<◌, ◌*◌, length, take, drop};
+ghost use Rattle.std.specs.Prelude.{Ok, Err, ◌≡◌, ◌<◌, ◌-◌, ◌*◌, leb, length, take, drop};
 ghost use Rattle.std.proofs.Math.ListN.{get_elem?};
+ghost use Rattle.wire.specs.Bytes.{if};
 ghost use Rattle.wire.specs.Call.{Writes};
+ghost use Rattle.wire.specs.declared.Refusal.TheVariants.{NoEncoding};
 ghost use Rattle.parts_cut.specs.Cut.{item_parts};
 ghost use Rattle.parts_cut.specs.Part.{piece_count, statement_parts, item_parts_from, item_count, typed_item_count, url_parts, written_of};
 ghost use Rattle.parts_cut.specs.Part.{part_bytes, WritesPart, statement_part, item_part, typed_item_part, typed_item_url_part};
 
 use sedna::names;
 use sedna_write::{write_empty, write_item, write_item_url, write_statement, write_text};
-use wire::{Counted, Place, Refusal, first, part, rest};
+use wire::{Place, Refusal, first, part, rest};
 
 // The text that a full body of 10,240 bytes holds: a statement's, behind its format byte.
 pub const STATEMENT_ROOM: usize = 10234;
@@ -30,7 +32,7 @@ fn piece_count(n: usize, m: usize) -> usize
     requires { 0 < m }
     ensures { result ≡ piece_count m n }
 {
-    if n == 0 { 0 } else { (n - 1) / m + 1 }
+    n.div_ceil(m)
 }
 
 // How many messages a statement of n bytes is cut into.
@@ -38,19 +40,17 @@ pub fn statement_parts(n: usize) -> usize
     ensures { result ≡ statement_parts n }
 {
     if n <= STATEMENT_ROOM {
-        return 1;
+        1
+    } else {
+        piece_count(n, STATEMENT_ROOM) + 1
     }
-    piece_count(n, STATEMENT_ROOM) + 1
 }
 
 // How many messages n bytes have whose first takes so many of them; ItemParts take the others.
 fn parts_from(first: usize, n: usize) -> usize
     ensures { result ≡ item_parts_from first n }
 {
-    if n <= first {
-        return 1;
-    }
-    1 + piece_count(n - first, PART_ROOM)
+    1 + piece_count(n.saturating_sub(first), PART_ROOM)
 }
 
 // How many messages an item of n bytes is cut into, up to 3.0.
@@ -67,17 +67,22 @@ pub fn typed_item_parts(n: usize) -> usize
     parts_from(START_ROOM, n)
 }
 
-// How many in 4.0, with a URL of so many bytes.
-pub fn typed_item_url_parts(n: usize, url: usize) -> Counted
-    ensures { result ≡ url_parts n url }
+// What a URL of so many bytes leaves of an ItemStart.
+fn room_beside(url: usize) -> Result<usize, Refusal>
+    ensures { result ≡ if (leb url 10227) (Ok (10227 - url)) (Err NoEncoding) }
 {
-    if url <= URL_ROOM {
-        return Counted::Count(parts_from(URL_ROOM - url, n));
-    }
-    Counted::Refused(Refusal::NoEncoding)
+    URL_ROOM.checked_sub(url).ok_or(Refusal::NoEncoding)
 }
 
-// Piece k of a text in pieces of m bytes. That there is one keeps the product from wrapping.
+// How many in 4.0, with a URL of so many bytes.
+pub fn typed_item_url_parts(n: usize, url: usize) -> Result<usize, Refusal>
+    ensures { result ≡ url_parts n url }
+{
+    Ok(parts_from(room_beside(url)?, n))
+}
+
+// Piece k of a text in pieces of m bytes. That there is one keeps the product from wrapping. Not
+// `chunks(m).nth(k)`, which steps over the k pieces ahead of it.
 fn piece(text: &[u8], k: usize, m: usize) -> &[u8]
     requires { k * m < length text.now }
     ensures { result.now ≡ take m (drop (k * m) text.now) }
@@ -92,66 +97,82 @@ fn piece(text: &[u8], k: usize, m: usize) -> &[u8]
 }
 
 // Part k of a statement's messages.
-pub fn write_statement_part(out: &mut [u8], format: u8, text: &[u8], k: usize) -> Counted
+pub fn write_statement_part(
+    out: &mut [u8],
+    format: u8,
+    text: &[u8],
+    k: usize,
+) -> Result<usize, Refusal>
     ensures { WritesPart (statement_part format text.now k) out.old result out.new }
 {
-    if sedna::format_allowed(format) {
-        if text.len() <= STATEMENT_ROOM {
-            if k == 0 {
-                return write_statement(out, names::EXECUTE, format, text);
-            }
-            return Counted::Refused(Refusal::NoSuchPart);
-        }
-        let count = piece_count(text.len(), STATEMENT_ROOM);
-        if k < count {
-            let t = piece(text, k, STATEMENT_ROOM);
-            return write_statement(out, names::EXECUTE_LONG, format, t);
-        }
-        if k == count {
-            return write_empty(out, names::LONG_QUERY_END);
-        }
-        return Counted::Refused(Refusal::NoSuchPart);
+    if !sedna::format_allowed(format) {
+        return Err(Refusal::ValueNotAllowed);
     }
-    Counted::Refused(Refusal::ValueNotAllowed)
+    if text.len() <= STATEMENT_ROOM {
+        return match k {
+            0 => write_statement(out, names::EXECUTE, format, text),
+            _ => Err(Refusal::NoSuchPart),
+        };
+    }
+    let count = piece_count(text.len(), STATEMENT_ROOM);
+    if k < count {
+        write_statement(
+            out,
+            names::EXECUTE_LONG,
+            format,
+            piece(text, k, STATEMENT_ROOM),
+        )
+    } else if k == count {
+        write_empty(out, names::LONG_QUERY_END)
+    } else {
+        Err(Refusal::NoSuchPart)
+    }
 }
 
 // ItemPart k of what the first message of an item leaves.
-fn write_following(out: &mut [u8], text: &[u8], k: usize) -> Counted
+fn write_following(out: &mut [u8], text: &[u8], k: usize) -> Result<usize, Refusal>
     ensures { Writes (written_of (length out.old) (get_elem? (item_parts text.now) k)) out.old 0
         (part_bytes (get_elem? (item_parts text.now) k)) result out.new }
 {
     if k < piece_count(text.len(), PART_ROOM) {
-        return write_text(out, names::ITEM_PART, piece(text, k, PART_ROOM));
+        write_text(out, names::ITEM_PART, piece(text, k, PART_ROOM))
+    } else {
+        Err(Refusal::NoSuchPart)
     }
-    Counted::Refused(Refusal::NoSuchPart)
 }
 
 // Part k of an item's messages, up to 3.0.
-pub fn write_item_part(out: &mut [u8], text: &[u8], k: usize) -> Counted
+pub fn write_item_part(out: &mut [u8], text: &[u8], k: usize) -> Result<usize, Refusal>
     ensures { WritesPart (item_part text.now k) out.old result out.new }
 {
-    if k == 0 {
-        return write_text(out, names::ITEM_PART, first(text, PART_ROOM));
+    match k {
+        0 => write_text(out, names::ITEM_PART, first(text, PART_ROOM)),
+        _ => write_following(out, rest(text, PART_ROOM), k - 1),
     }
-    write_following(out, rest(text, PART_ROOM), k - 1)
 }
 
 // Part k of an item's messages in 4.0, without a URL. Class and type are judged for every part: an
 // ItemPart has neither.
-pub fn write_typed_item_part(out: &mut [u8], class: u8, kind: u8, text: &[u8], k: usize) -> Counted
+pub fn write_typed_item_part(
+    out: &mut [u8],
+    class: u8,
+    kind: u8,
+    text: &[u8],
+    k: usize,
+) -> Result<usize, Refusal>
     ensures { WritesPart (typed_item_part class kind text.now k) out.old result out.new }
 {
-    if sedna::item_allowed(class, kind) {
-        if k == 0 {
-            let t = first(text, START_ROOM);
-            return write_item(out, names::ITEM_START, class, kind, t);
-        }
-        return write_following(out, rest(text, START_ROOM), k - 1);
+    if !sedna::item_allowed(class, kind) {
+        return Err(Refusal::ValueNotAllowed);
     }
-    Counted::Refused(Refusal::ValueNotAllowed)
+    match k {
+        0 => write_item(out, names::ITEM_START, class, kind, first(text, START_ROOM)),
+        _ => write_following(out, rest(text, START_ROOM), k - 1),
+    }
 }
 
-// Part k of an item's messages in 4.0, with a URL.
+// Part k of an item's messages in 4.0, with a URL. Not one function with an `Option` for the URL: C
+// has a call for each, which answers as one of these two.
 pub fn write_typed_item_url_part(
     out: &mut [u8],
     class: u8,
@@ -159,19 +180,15 @@ pub fn write_typed_item_url_part(
     url: &[u8],
     text: &[u8],
     k: usize,
-) -> Counted
+) -> Result<usize, Refusal>
     ensures { WritesPart (typed_item_url_part class kind url.now text.now k) out.old result out.new }
 {
-    if sedna::item_allowed(class, kind) {
-        if URL_ROOM < url.len() {
-            return Counted::Refused(Refusal::NoEncoding);
-        }
-        let room = URL_ROOM - url.len();
-        if k == 0 {
-            let t = first(text, room);
-            return write_item_url(out, names::ITEM_START, class, kind, url, t);
-        }
-        return write_following(out, rest(text, room), k - 1);
+    if !sedna::item_allowed(class, kind) {
+        return Err(Refusal::ValueNotAllowed);
     }
-    Counted::Refused(Refusal::ValueNotAllowed)
+    let room = room_beside(url.len())?;
+    match k {
+        0 => write_item_url(out, names::ITEM_START, class, kind, url, first(text, room)),
+        _ => write_following(out, rest(text, room), k - 1),
+    }
 }

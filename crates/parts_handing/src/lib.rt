@@ -9,6 +9,7 @@ ghost use Rattle.parts_handing.specs.Handing.{JoinHands};
 
 use parts_join::{Answer, Assembly, Joined};
 use sedna_read::Places;
+use wire::Refusal;
 
 // What joining a message returns, and what it hands over: the front part of the buffer, with no copy.
 #[derive(Clone, Copy)]
@@ -18,7 +19,7 @@ pub struct Handing<'a> {
 }
 
 // Of a buffer that was lent to be written, and is given up for the part.
-fn handed_of<'a>(buffer: &'a mut [u8], answer: Answer) -> &'a [u8]
+fn handed_of<'a>(buffer: &'a mut [u8], answer: Result<Answer, Refusal>) -> &'a [u8]
     ensures { Hands answer buffer.old buffer.entry.ref_ptr result.now result.ref_ptr }
 {
     let whole = &buffer[..];

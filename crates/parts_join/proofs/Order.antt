@@ -1,4 +1,6 @@
 -- The order of joining: where the room is judged, and that only a text that fits is accepted.
+use Rattle.std.specs.Result.{is_ok}
+use Rattle.std.specs.Prelude.{Result, Ok, Err}
 use mathlib.Core.Bool.{Bool, true, false}
 use mathlib.Core.List.{List}
 use mathlib.Core.Path.{◌≡◌, refl, sym, ap, ◌∙◌}
@@ -13,6 +15,7 @@ use Rattle.wire.specs.declared.Refusal.{Refusal}
 use Rattle.wire.specs.declared.Refusal.TheVariants.{OutOfOrder, BufferOverrun, ValueNotAllowed}
 use Rattle.sedna.specs.Allowed.{allowed}
 use Rattle.sedna.specs.Message.{Message}
+use Rattle.parts_join.specs.declared.Answer.{Answer}
 use Rattle.parts_join.specs.declared.Assembly.{Assembly}
 use Rattle.parts_join.specs.declared.Joined.{Joined}
 use Rattle.parts_join.specs.declared.Label.{Label}
@@ -60,6 +63,10 @@ unfolding joined
 joined-fits a room m h =
     as_fits a (role_of a.what m) (label_of m.body) (length (text_of m.body)) room
     (came_first (allowed m.body) (joined_as a (role_of a.what m) (label_of m.body) (length (text_of m.body)) room) ValueNotAllowed a h)
+
+pub ok_accepted : (x : Result Answer Refusal) → is_ok x ≡ is_accepted x
+ok_accepted (Ok x) = refl
+ok_accepted (Err r) = refl
 
 -- what was accepted is stored, as the code stores it
 pub after-accepted : (a : Assembly) (d : List ℕ) (m : Message) {j : Joined} {t out : List ℕ} → j ≡ joined a (length d) m

@@ -1,10 +1,8 @@
 -- Where the messages of a cutting stand: a first part, further ones, the end. So a message that begins no cutting behind those accepted is known by its role.
 use mathlib.Core.Bool.{Bool, true, false}
 use mathlib.Core.List.{List, [], ◌∷◌, ◌++◌, map, append_assoc}
-use mathlib.Core.Path.{◌≡◌, refl, sym, ap, subst, ◌∙◌}
+use mathlib.Core.Path.{◌≡◌, refl, sym, subst, ◌∙◌}
 use Prim.Native.Nat.{ℕ}
-use native.Mathlib.Omega.{arith}
-use Rattle.wire.specs.Bytes.{if}
 use Rattle.wire.specs.Every.{Every}
 use Rattle.sedna.specs.Message.{Url, Body, Message, message}
 use Rattle.sedna.specs.Names.{LongQueryEnd, ItemStart}
@@ -16,7 +14,7 @@ use Rattle.parts_join.specs.Offered.{Cut, Begun, PartOf}
 use Rattle.parts_join.specs.Roles.{together, role_of, takes, in_order, ends}
 
 pub not_both : {P : Type 0} → ◌≡◌ {A = Bool} true false → P
-not_both e = absurd (omega (arith, ap (λ (t : Bool). if {A = ℕ} t 0 1) e))
+not_both e = cc
 
 -- a message that an assembly of `what` takes, with or without a part before it, and whether it ends it
 pub record Placed (what : Open) (begun end : Bool) (m : Message) : Type 0 where

@@ -1,4 +1,5 @@
 -- What a refusal leaves, and that what is handed over lies in the buffer.
+use Rattle.std.specs.Prelude.{Result, Ok, Err}
 use mathlib.Core.Bool.{Bool, true, false}
 use mathlib.Core.List.{List}
 use mathlib.Core.Logic.{◌⊎◌, inl, inr, ⊎_elim}
@@ -67,10 +68,10 @@ joined-outcome a room m =
     (Outcome.unchanged ValueNotAllowed (inl refl) refl)
 
 -- an accepted message is no more than its record, or hands over
-of_accepted : (P : Answer → Type 0) (b : Assembly) (k : Role) → P (whole_of b.what b.label b.held) → P answer.Part → P (accepted b k).answer
+of_accepted : (P : Result Answer Refusal → Type 0) (b : Assembly) (k : Role) → P (whole_of b.what b.label b.held) → P (Ok answer.Part) → P (accepted b k).answer
 of_accepted P b k full part = by (ends k)
   where
-    by : (t : Bool) → P (if {A = Joined} t (record { assembly = closed; answer = whole_of b.what b.label b.held }) (record { assembly = b; answer = answer.Part })).answer
+    by : (t : Bool) → P (if {A = Joined} t (record { assembly = closed; answer = whole_of b.what b.label b.held }) (record { assembly = b; answer = Ok answer.Part })).answer
     by true = full
     by false = part
 
@@ -106,12 +107,12 @@ is_refusal Reply.taken = false
 is_refusal (Reply.whole values n) = false
 
 -- what is replied with a number was not accepted
-refused-reply : (x : Answer) → is_refusal (reply x) ≡ true → is_accepted x ≡ false
-refused-reply answer.Part h = not_both (sym h)
-refused-reply (answer.Statement format n) h = not_both (sym h)
-refused-reply (answer.Item n) h = not_both (sym h)
-refused-reply (answer.TypedItem class kind n) h = not_both (sym h)
-refused-reply (answer.Refused r) h = refl
+refused-reply : (x : Result Answer Refusal) → is_refusal (reply x) ≡ true → is_accepted x ≡ false
+refused-reply (Ok answer.Part) h = not_both (sym h)
+refused-reply (Ok (answer.Statement format n)) h = not_both (sym h)
+refused-reply (Ok (answer.Item n)) h = not_both (sym h)
+refused-reply (Ok (answer.TypedItem class kind n)) h = not_both (sym h)
+refused-reply (Err r) h = refl
 
 -- a refusal leaves the buffer, and the record but for the mark of 12
 pub refusal-leaves : (a : Assembly) (d : List ℕ) (m : Message) (n : ℕ) → reply (joined a (length d) m).answer ≡ Reply.number n → RefusalLeaves a d m n

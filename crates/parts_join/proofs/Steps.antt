@@ -1,4 +1,5 @@
 -- One call, from a record in progress: a part that fits, the last message, and the part that overruns.
+use Rattle.std.specs.Prelude.{Ok}
 use mathlib.Core.Bool.{Bool, true, false}
 use mathlib.Core.List.{List, ◌++◌}
 use mathlib.Core.Path.{◌≡◌, refl, ap, ◌∙◌}
@@ -109,7 +110,7 @@ module _ (a : Assembly) (d g : List ℕ) (m : Message) (h : a.overflowed ≡ fal
   pub step_part : Taken a.what a.begun false m → length (g ++ text) ≤ length d
       → join_call (beside a d g) m ≡ did (beside (going a.what (first_label a m) (length (g ++ text))) d (g ++ text)) Reply.taken
   step_part t f =
-      there t f (record { assembly = going a.what (first_label a m) (length (g ++ text)); answer = answer.Part })
+      there t f (record { assembly = going a.what (first_label a m) (length (g ++ text)); answer = Ok answer.Part })
       (joined-there a (length (splice d 0 g)) m t h
       ∙ fitted-there a (role_of a.what m) (label_of m.body) (length text) (length (splice d 0 g)) (omega (arith, grown_by, fitting t f))
       ∙ simp (t.place.ending, h, grown_by))

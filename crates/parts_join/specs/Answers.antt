@@ -1,4 +1,6 @@
 -- Document 01's number and values of each answer.
+use Rattle.std.specs.Prelude.{Result, Ok, Err}
+use Rattle.wire.specs.declared.Refusal.{Refusal}
 use Rattle.std.specs.Prelude.{List, [], ◌∷◌, ℕ}
 use Rattle.wire.specs.Refusals.{number_of}
 use Rattle.parts_join.specs.declared.Answer.{Answer}
@@ -11,12 +13,12 @@ pub data Reply : Type 0 where
   -- "handed over as the front part of the gathering buffer, with class and type in 4.0 or the format": those values, and how many bytes
   whole : List ℕ → ℕ → Reply
 
-abbrev pub reply : Answer → Reply
-reply Answer.Part = Reply.taken
-reply (Answer.Statement format n) = Reply.whole (format ∷ []) n
-reply (Answer.Item n) = Reply.whole [] n
-reply (Answer.TypedItem class kind n) = Reply.whole (class ∷ kind ∷ []) n
-reply (Answer.Refused r) = Reply.number (number_of r)
+abbrev pub reply : Result Answer Refusal → Reply
+reply (Ok Answer.Part) = Reply.taken
+reply (Ok (Answer.Statement format n)) = Reply.whole (format ∷ []) n
+reply (Ok (Answer.Item n)) = Reply.whole [] n
+reply (Ok (Answer.TypedItem class kind n)) = Reply.whole (class ∷ kind ∷ []) n
+reply (Err r) = Reply.number (number_of r)
 
 -- how many bytes are handed over
 abbrev pub bytes_handed : Reply → ℕ

@@ -1,4 +1,5 @@
 -- Document 01, "When joining: 8, 9, 12": what a call answers, the record that it returns, and what it leaves in the lent buffer.
+use Rattle.std.specs.Prelude.{Result, Ok, Err}
 use mathlib.Core.{Bool.Bool, Bool.true, Bool.false, List.List, Path.◌≡◌}
 use Rattle.std.specs.Prelude.{ℕ, ◌+◌}
 use lib.{Dec.ltb, ListN.length, ListN.take}
@@ -18,7 +19,7 @@ closed = opened Open.Nothing
 
 -- "A refusal returns its number alone ...; buffers and session record stay unchanged."
 abbrev pub refused : Refusal → Assembly → Joined
-refused r a = record { assembly = a; answer = Answer.Refused r }
+refused r a = record { assembly = a; answer = Err r }
 
 -- "Only a gathering that met 12 is marked spoilt."
 abbrev pub marked : Assembly → Assembly
@@ -30,18 +31,18 @@ grown a l n = record { what = a.what; begun = true; held = a.held + n; overflowe
 
 -- "A finished item or statement is handed over ... with class and type in 4.0 or the format." Where nothing is open no end is taken, and the first line
 -- serves no call
-abbrev pub whole_of : Open → Label → ℕ → Answer
-whole_of Open.Nothing l n = Answer.Part
-whole_of Open.Statement l n = Answer.Statement l.format n
-whole_of Open.Item l n = Answer.Item n
-whole_of Open.TypedItem l n = Answer.TypedItem l.class l.kind n
+abbrev pub whole_of : Open → Label → ℕ → Result Answer Refusal
+whole_of Open.Nothing l n = Ok Answer.Part
+whole_of Open.Statement l n = Ok (Answer.Statement l.format n)
+whole_of Open.Item l n = Ok (Answer.Item n)
+whole_of Open.TypedItem l n = Ok (Answer.TypedItem l.class l.kind n)
 
 -- a part is taken, or "an accepted end closes it"
 abbrev pub accepted : Assembly → Role → Joined
 accepted a k =
     if (ends k)
     (record { assembly = closed; answer = whole_of a.what a.label a.held })
-    (record { assembly = a; answer = Answer.Part })
+    (record { assembly = a; answer = Ok Answer.Part })
 
 -- "A part that would overrun gets 12 and spoils the gathering"
 unfoldable pub fitted : Assembly → Role → Label → ℕ → ℕ → Joined
@@ -61,12 +62,9 @@ joined a room m =
     (joined_as a (role_of a.what m) (label_of m.body) (length (text_of m.body)) room)
     (refused Refusal.ValueNotAllowed a)
 
-abbrev pub is_accepted : Answer → Bool
-is_accepted Answer.Part = true
-is_accepted (Answer.Statement format n) = true
-is_accepted (Answer.Item n) = true
-is_accepted (Answer.TypedItem class kind n) = true
-is_accepted (Answer.Refused r) = false
+abbrev pub is_accepted : Result Answer Refusal → Bool
+is_accepted (Ok x) = true
+is_accepted (Err r) = false
 
 -- the buffer then: the text behind what was held, or as it was
 unfoldable pub buffer_after : Assembly → List ℕ → Message → List ℕ
@@ -77,6 +75,6 @@ abbrev pub JoinGives : Assembly → List ℕ → Message → Joined → List ℕ
 JoinGives a d m = Gives (joined a (length d) m) (buffer_after a d m)
 
 -- the contract of a call that hands over what an answer tells: the front part of the buffer, where that stands, so no copy
-pub record Hands (answer : Answer) (buffer : List ℕ) (at : ℕ × ℕ) (part : List ℕ) (there : ℕ × ℕ) : Type 0 where
+pub record Hands (answer : Result Answer Refusal) (buffer : List ℕ) (at : ℕ × ℕ) (part : List ℕ) (there : ℕ × ℕ) : Type 0 where
   pub bytes : part ≡ take (bytes_handed (reply answer)) buffer
   pub place : there ≡ at

@@ -1,4 +1,5 @@
 -- Bodies that a cut writes are published: they have room for the text that it gives them.
+use Rattle.std.specs.Prelude.{Some}
 use mathlib.Core.Bool.{true}
 use mathlib.Core.List.{List}
 use mathlib.Core.Path.{◌≡◌, refl}
@@ -9,7 +10,6 @@ use borrow.Author.Tests.{leb-true}
 use Rattle.wire.specs.Bytes.{IsBytes, int}
 use Rattle.sedna.specs.declared.Side.TheVariants.{Client, Server}
 use Rattle.sedna.specs.declared.Shape.TheVariants.{Empty, Text, Statement, Item}
-use Rattle.sedna.specs.declared.Found.TheVariants.{Known}
 use Rattle.sedna.specs.Allowed.{format_allowed, allowed}
 use Rattle.sedna.specs.Encode.{string, url_bytes, body_bytes}
 use Rattle.sedna.specs.Message.{Url, Body, message}
@@ -30,7 +30,7 @@ format_small : (format : ℕ) → format_allowed format ≡ true → format < 25
 unfolding format_allowed
 format_small format ok = omega (arith, leb-true format 1 ok)
 
-pub statement_published : (k format : ℕ) (t : List ℕ) → find_of k ≡ Known Client Statement → format_allowed format ≡ true → length t ≤ statement_room → IsBytes t
+pub statement_published : (k format : ℕ) (t : List ℕ) → find_of k ≡ Some (Client, Statement) → format_allowed format ≡ true → length t ≤ statement_room → IsBytes t
     → Published Client (message k (Body.statement format t))
 unfolding allowed body_bytes
 statement_published k format t known ok room h =

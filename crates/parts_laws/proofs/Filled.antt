@@ -1,4 +1,5 @@
 -- The cuts fill their messages, and a URL leaves room exactly where its ItemStart has an encoding.
+use Rattle.std.specs.Prelude.{Ok, Err}
 use mathlib.Core.List.{List, [], ◌∷◌, ◌++◌, map}
 use mathlib.Core.Logic.{◌↔◌}
 use mathlib.Core.Path.{◌≡◌}
@@ -12,7 +13,6 @@ use Rattle.wire.specs.declared.Refusal.TheVariants.{NoEncoding}
 use Rattle.sedna.specs.Encode.{string, url_bytes, body_bytes}
 use Rattle.sedna.specs.Message.{Url, Body, Message, message}
 use Rattle.sedna.specs.Names as M
-use Rattle.wire.specs.declared.Counted.TheVariants.{Count, Refused}
 use Rattle.parts_cut.specs.Cut.{pieces_up_to, pieces, statement_room, part_room, start_room, cut_statement, cut_item, cut_typed_item}
 use Rattle.parts_cut.specs.Part.{url_parts}
 use Rattle.parts_cut.proofs.Counts.{typed_item-counted}
@@ -98,5 +98,5 @@ url_fits class kind (Url.present url) =
 
 -- the count of parts is the cut's, or 11
 pub url_counted : (class kind : ℕ) (url text : List ℕ) → url_parts (length text) (length url)
-    ≡ if (leb (length url) 10227) (Count (length (cut_typed_item class kind (Url.present url) text))) (Refused NoEncoding)
+    ≡ if (leb (length url) 10227) (Ok (length (cut_typed_item class kind (Url.present url) text))) (Err NoEncoding)
 url_counted class kind url text = rw (typed_item-counted class kind (Url.present url) text)

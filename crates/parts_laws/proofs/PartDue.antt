@@ -1,4 +1,6 @@
 -- What writing a part of a cut answers and leaves is what is due.
+use Rattle.std.specs.Prelude.{Result, Ok, Err}
+use Rattle.wire.specs.declared.Refusal.{Refusal}
 use mathlib.Core.Bool.{Bool, true, false}
 use mathlib.Core.List.{List, [], ◌∷◌}
 use mathlib.Core.Option.{Option, none, some}
@@ -15,8 +17,6 @@ use Rattle.wire.specs.declared.Refusal.TheVariants.{ValueNotAllowed, NoEncoding,
 use Rattle.sedna.specs.Encode.{encode}
 use Rattle.sedna.specs.Message.{Url, Message}
 use Rattle.sedna.specs.Published.{Published}
-use Rattle.wire.specs.declared.Counted.{Counted}
-use Rattle.wire.specs.declared.Counted.TheVariants.{Count, Refused}
 use Rattle.sedna_write.specs.Writing.{written}
 use Rattle.sedna_laws.proofs.Written.{splice_front}
 use Rattle.wire.proofs.Branches.{apart}
@@ -61,25 +61,25 @@ ended (x ∷ l) zero e = apart (cc)
 ended (x ∷ l) (suc k) e = let h = ended l k e in omega (arith, h)
 
 module _ (u : Uncut) (s : Slices u) (k : ℕ) (out : List ℕ) where
-  abbrev answer : Bool → Bool → Option Message → Counted
-  answer a b o = if a (if b (written_of (length out) o) (Refused NoEncoding)) (Refused ValueNotAllowed)
+  abbrev answer : Bool → Bool → Option Message → Result ℕ Refusal
+  answer a b o = if a (if b (written_of (length out) o) (Err NoEncoding)) (Err ValueNotAllowed)
 
-  abbrev Due : Counted → Option Message → Type 0
+  abbrev Due : Result ℕ Refusal → Option Message → Type 0
   Due w o = PartRight u k out w (output_after w out 0 (part_bytes o))
 
   there : (m : Message) → Allowed u → Fits u → get_elem? (cut u) k ≡ some m → Due (written (length out) m) (some m)
   there m a f e = by (ltb (length out) (length (encode m))) refl
     where
-      is : written (length out) m ≡ if (ltb (length out) (length (encode m))) (Refused NoRoom) (Count (length (encode m)))
+      is : written (length out) m ≡ if (ltb (length out) (length (encode m))) (Err NoRoom) (Ok (length (encode m)))
       is = published-written (sender u) m (length out) (at (Published (sender u)) (cut u) k m (published u a s f) e)
 
       by : (t : Bool) → ltb (length out) (length (encode m)) ≡ t → Due (written (length out) m) (some m)
       by true t =
-          let w : written (length out) m ≡ Refused NoRoom = is ∙ ap (λ (b : Bool). if b (Refused NoRoom) (Count (length (encode m)))) t in
-          subst (λ (w : Counted). Due w (some m)) (sym w) (PartRight.no_room NoRoom m refl a f e (ltb-true (length out) (length (encode m)) t))
+          let w : written (length out) m ≡ Err NoRoom = is ∙ ap (λ (b : Bool). if b (Err NoRoom) (Ok (length (encode m)))) t in
+          subst (λ (w : Result ℕ Refusal). Due w (some m)) (sym w) (PartRight.no_room NoRoom m refl a f e (ltb-true (length out) (length (encode m)) t))
       by false t =
-          let w : written (length out) m ≡ Count (length (encode m)) = is ∙ ap (λ (b : Bool). if b (Refused NoRoom) (Count (length (encode m)))) t in
-          subst (λ (w : Counted). Due w (some m)) (sym w)
+          let w : written (length out) m ≡ Ok (length (encode m)) = is ∙ ap (λ (b : Bool). if b (Err NoRoom) (Ok (length (encode m)))) t in
+          subst (λ (w : Result ℕ Refusal). Due w (some m)) (sym w)
           (rw (splice_front out (encode m) (length (encode m)) refl) (PartRight.put m a f e (ltb-false (length out) (length (encode m)) t)))
 
   by_tests : (a b : Bool) (o : Option Message) → permitted u ≡ a → encodable u ≡ b → get_elem? (cut u) k ≡ o → Due (answer a b o) o

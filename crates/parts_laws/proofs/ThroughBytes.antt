@@ -1,4 +1,6 @@
 -- What was cut, written, read and joined again is what was cut.
+use Rattle.std.specs.Prelude.{Result, Ok, Err}
+use Rattle.wire.specs.declared.Refusal.{Refusal}
 use mathlib.Core.Bool.{Bool, true}
 use mathlib.Core.List.{List, [], ◌∷◌, ◌++◌, map, append-nil}
 use mathlib.Core.Option.{Option, some}
@@ -23,8 +25,6 @@ use Rattle.sedna.specs.Table.{rows, search, find_of}
 use Rattle.sedna_read.specs.Meaning.{meaning}
 use Rattle.sedna_read.specs.Places.{located}
 use Rattle.sedna_read.specs.Reading.{Answer, reading}
-use Rattle.wire.specs.declared.Counted.{Counted}
-use Rattle.wire.specs.declared.Counted.TheVariants.{Count, Refused}
 use Rattle.sedna_write.specs.Writing.{written}
 use Rattle.sedna_laws.proofs.Bounds.{bytes-none}
 use Rattle.wire.proofs.Branches.{apart}
@@ -80,14 +80,14 @@ read_length side (s ∷ ss) (m ∷ ms) h = ap suc (read_length side ss ms h.1)
 
 -- a message that was written with room is read again
 module _ {side : Side} {m : Message} (p : Published side m) (out : List ℕ) (room : length (encode m) ≤ length out) where
-  has_room : written (length out) m ≡ Count (length (encode m))
+  has_room : written (length out) m ≡ Ok (length (encode m))
   has_room =
       part-there side (m ∷ []) (p, tt) 0 (length out) m refl
-      ∙ ap (λ (b : Bool). if b (Refused NoRoom) (Count (length (encode m)))) (le-ltb (length out) (length (encode m)) room)
+      ∙ ap (λ (b : Bool). if b (Err NoRoom) (Ok (length (encode m)))) (le-ltb (length out) (length (encode m)) room)
 
   message-reads : Reads side (message_bytes out m) m
   message-reads =
-      subst (λ (r : Counted). Reads side (output_after r out 0 (encode m)) m) (sym has_room)
+      subst (λ (r : Result ℕ Refusal). Reads side (output_after r out 0 (encode m)) m) (sym has_room)
       (length (encode m), part_read side (m ∷ []) (p, tt) 0 m refl out (length (encode m)) has_room)
 
 messages-read : (side : Side) (out : List ℕ) (ms : List Message) → Every (Published side) ms → Every (λ (m : Message). length (encode m) ≤ length out) ms
@@ -114,7 +114,7 @@ module _ {A : Type 0} where
 
 -- what a part leaves, where it is not refused for the whole
 part_bytes_lem : (out : List ℕ) (ok enc : Bool) (o : Option Message) (m : Message) → ok ≡ true → enc ≡ true → o ≡ some m
-    → output_after (if ok (if enc (written_of (length out) o) (Refused NoEncoding)) (Refused ValueNotAllowed)) out 0 (part_bytes o) ≡ message_bytes out m
+    → output_after (if ok (if enc (written_of (length out) o) (Err NoEncoding)) (Err ValueNotAllowed)) out 0 (part_bytes o) ≡ message_bytes out m
 part_bytes_lem out ok enc o m p q r = rw (p, q, r)
 
 -- what is said of each kind

@@ -1,4 +1,6 @@
 -- `records` reads exactly what the format says.
+use Rattle.std.specs.Prelude.{Option, Some, None}
+use Rattle.records.specs.Record.{head_there}
 use mathlib.Core.Bool.{Bool, true, false}
 use mathlib.Core.List.{List, [], ◌∷◌, ◌++◌, append_assoc, flat_map}
 use mathlib.Core.Path.{◌≡◌, refl, sym, ap, subst, ◌∙◌}
@@ -13,18 +15,17 @@ use Rattle.wire.specs.Every.{Every}
 use Rattle.sedna.specs.{declared.Side.Side, declared.Side.TheVariants.Client, declared.Side.TheVariants.Server, Kinds.side_number}
 use Rattle.wire.proofs.Branches.{apart, either}
 use Rattle.records.specs.declared.Head.{Head}
-use Rattle.records.specs.declared.Head.TheVariants as head
 use Rattle.records.specs.Format.{little_bytes, record_bytes, transcript, Sound, NoRecord, Stops, Format}
 use Rattle.records.specs.Record.{little, sent, head_of, Record, record_of, Front, behind, front, Records, from_front, records_up_to, records}
 use Rattle.records.proofs.Runs.{shorter, records-front}
 
 -- six bytes that spell a length and a kind
 pub head_six : (a b c d e f : ℕ) (s : List ℕ)
-    → head_of (a ∷ b ∷ c ∷ d ∷ e ∷ f ∷ s) ≡ if (ltb 10248 (little (a ∷ b ∷ c ∷ d ∷ []))) head.Damaged (sent (little (e ∷ f ∷ [])) (little (a ∷ b ∷ c ∷ d ∷ [])))
+    → head_of (a ∷ b ∷ c ∷ d ∷ e ∷ f ∷ s) ≡ if (ltb 10248 (little (a ∷ b ∷ c ∷ d ∷ []))) None (sent (little (e ∷ f ∷ [])) (little (a ∷ b ∷ c ∷ d ∷ [])))
 unfolding head_of
 head_six a b c d e f s = rw (le-ltb (length (a ∷ b ∷ c ∷ d ∷ e ∷ f ∷ s)) 6 (omega arith))
 
-kind-sent : (side : Side) (n : ℕ) → sent (little (little_bytes 2 (side_number side))) n ≡ head.Record side n
+kind-sent : (side : Side) (n : ℕ) → sent (little (little_bytes 2 (side_number side))) n ≡ head_there side n
 kind-sent Client n = refl
 kind-sent Server n = refl
 
@@ -89,7 +90,7 @@ module _ (a b c d e f : ℕ) (s : List ℕ) (h : IsBytes (a ∷ b ∷ c ∷ d �
   two = little-bytes (e ∷ f ∷ []) s (λ i. h (suc (suc (suc (suc i)))))
 
   -- a payload of n bytes
-  payload_back : (side : Side) (n : ℕ) → code ≡ side_number side → len ≡ n → n ≤ 10248 → behind s (head.Record side n) ≡ Front.sound r rest → Back
+  payload_back : (side : Side) (n : ℕ) → code ≡ side_number side → len ≡ n → n ≤ 10248 → behind s (head_there side n) ≡ Front.sound r rest → Back
   payload_back side n k l m p =
       either (ltb (length s) n) _ _ p (λ cut q. apart (cc)) λ whole q.
       let x : record_of side (take n s) ≡ r = cc in
@@ -105,12 +106,12 @@ module _ (a b c d e f : ℕ) (s : List ℕ) (h : IsBytes (a ∷ b ∷ c ∷ d �
   kind_back : (n : ℕ) → len ≡ n → n ≤ 10248 → behind s (sent code n) ≡ Front.sound r rest → Back
   kind_back n l m p = client (eqb code 1) refl p
     where
-      server : (t : Bool) → eqb code 2 ≡ t → behind s (if t (head.Record Server n) head.Damaged) ≡ Front.sound r rest → Back
+      server : (t : Bool) → eqb code 2 ≡ t → behind s (if t (head_there Server n) None) ≡ Front.sound r rest → Back
       server true k p = payload_back Server n (eqb-true _ _ k) l m p
       server false k p = apart (cc)
 
       client : (t : Bool) → eqb code 1 ≡ t
-          → behind s (if t (head.Record Client n) (if (eqb code 2) (head.Record Server n) head.Damaged)) ≡ Front.sound r rest → Back
+          → behind s (if t (head_there Client n) (if (eqb code 2) (head_there Server n) None)) ≡ Front.sound r rest → Back
       client true k p = payload_back Client n (eqb-true _ _ k) l m p
       client false k p = server (eqb code 2) refl p
 
@@ -118,7 +119,7 @@ module _ (a b c d e f : ℕ) (s : List ℕ) (h : IsBytes (a ∷ b ∷ c ∷ d �
   unfolding front
   six_back p = by (ltb 10248 len) refl (ap (behind s) (sym (head_six a b c d e f s)) ∙ p)
     where
-      by : (t : Bool) → ltb 10248 len ≡ t → behind s (if t head.Damaged (sent code len)) ≡ Front.sound r rest → Back
+      by : (t : Bool) → ltb 10248 len ≡ t → behind s (if t None (sent code len)) ≡ Front.sound r rest → Back
       by true q p = apart (cc)
       by false q p = kind_back len refl (ltb-false _ _ q) p
 
@@ -143,9 +144,9 @@ unfolding front
 end_empty [] e = refl
 end_empty (b ∷ s) e = by (head_of (b ∷ s)) e
   where
-    by : (h : Head) → behind (drop 6 (b ∷ s)) h ≡ Front.end → b ∷ s ≡ []
-    by head.Damaged e = apart (cc)
-    by (head.Record side n) e = either (ltb (length (drop 6 (b ∷ s))) n) _ _ e (λ cut p. apart (cc)) (λ whole p. apart (cc))
+    by : (h : Option Head) → behind (drop 6 (b ∷ s)) h ≡ Front.end → b ∷ s ≡ []
+    by None e = apart (cc)
+    by (Some m) e = either (ltb (length (drop 6 (b ∷ s))) m.len) _ _ e (λ cut p. apart (cc)) (λ whole p. apart (cc))
 
 stops-up_to : (most : ℕ) (s : List ℕ) → length s ≤ most → IsBytes s → Stops s (records_up_to most s)
 unfolding records_up_to flat_map

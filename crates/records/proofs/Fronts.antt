@@ -1,11 +1,13 @@
 -- What stands at the front of a transcript from a place on.
+use Rattle.std.specs.Prelude.{Option, Some, None}
+use Rattle.records.specs.Record.{head_there}
 use mathlib.Core.Bool.{Bool, true, false}
 use mathlib.Core.Path.{◌≡◌, refl, sym, ap, subst, subst₂, ◌∙◌}
 use mathlib.Core.List.{List, [], ◌∷◌}
 use Prim.Native.Nat.{ℕ, ◌+◌, ◌-◌, ◌≤◌, ◌<◌}
 use native.Mathlib.Omega.{arith}
 use lib.Dec.{ltb}
-use lib.ListN.{length, take, drop, length-take, length-drop, drop_of_length-le}
+use lib.ListN.{length, take, drop, length-drop, drop_of_length-le}
 use lib.Seq.{take_all, length-take-le, drop-drop}
 use borrow.Author.Tests.{lt-ltb, le-ltb, ltb-true, ltb-false}
 use Rattle.wire.specs.Bytes.{if}
@@ -13,7 +15,6 @@ use Rattle.wire.specs.declared.Place.{Place}
 use Rattle.sedna.specs.declared.Side.{Side}
 use Rattle.wire.proofs.Branches.{apart, either}
 use Rattle.records.specs.declared.Head.{Head}
-use Rattle.records.specs.declared.Head.TheVariants as head
 use Rattle.records.specs.declared.Next.TheVariants as next
 use Rattle.records.specs.Record.{head_of, record_of, Front, behind, front}
 use Rattle.records.specs.Places.{located, Bounded}
@@ -32,36 +33,30 @@ rest_part : (s : List ℕ) (at : ℕ) → take (length s - at) (drop at s) ≡ d
 rest_part s at = take_all (length s - at) (drop at s) (omega (arith, length-drop at s))
 
 module _ (s : List ℕ) (at : ℕ) (h : at < length s) where
-  front_judged : {x : Head} → head_of (take (length s - at) (drop at s)) ≡ x → front (drop at s) ≡ behind (drop 6 (drop at s)) x
+  front_judged : {x : Option Head} → head_of (take (length s - at) (drop at s)) ≡ x → front (drop at s) ≡ behind (drop 6 (drop at s)) x
   front_judged e = front-some (drop at s) (omega (arith, length-drop at s)) ∙ ap (behind (drop 6 (drop at s))) (ap head_of (sym (rest_part s at)) ∙ e)
 
   behind-length : length (drop 6 (drop at s)) ≡ length s - (at + 6)
   behind-length = ap length (drop-drop 6 at s) ∙ length-drop (at + 6) s
 
-  pub next-bad : head_of (take (length s - at) (drop at s)) ≡ head.Damaged → next.Damaged ≡ located at (front (drop at s))
+  pub next-bad : head_of (take (length s - at) (drop at s)) ≡ None → next.Damaged ≡ located at (front (drop at s))
   next-bad e = sym (ap (located at) (front_judged e))
 
-  pub next-cut : {side : Side} {n : ℕ} → head_of (take (length s - at) (drop at s)) ≡ head.Record side n → length s - (at + 6) < n → next.Damaged ≡ located at (front (drop at s))
+  pub next-cut : {side : Side} {n : ℕ} → head_of (take (length s - at) (drop at s)) ≡ head_there side n → length s - (at + 6) < n → next.Damaged ≡ located at (front (drop at s))
   next-cut {side} {n} e k = rw (front_judged e, lt-ltb (length (drop 6 (drop at s))) n (omega (arith, behind-length)))
 
-  pub next-whole : {side : Side} {n : ℕ} → head_of (take (length s - at) (drop at s)) ≡ head.Record side n → n ≤ length s - (at + 6)
+  pub next-whole : {side : Side} {n : ℕ} → head_of (take (length s - at) (drop at s)) ≡ head_there side n → n ≤ length s - (at + 6)
       → next.Record side (record { start = at + 6; len = n }) ≡ located at (front (drop at s))
   next-whole {side} {n} e k =
       let l : n ≤ length (drop 6 (drop at s)) = omega (arith, behind-length) in
       rw (front_judged e, le-ltb (length (drop 6 (drop at s))) n l) (ap (λ (m : ℕ). next.Record side (record { start = at + 6; len = m })) (sym (length-take-le n (drop 6 (drop at s)) l)))
 
 -- a payload has its bound
-pub payload_bound : (room : ℕ) {h : Head} {side : Side} {n : ℕ} → Bounded room h → h ≡ head.Record side n → n ≤ 10248
+pub payload_bound : (room : ℕ) {h : Option Head} {side : Side} {n : ℕ} → Bounded room h → h ≡ head_there side n → n ≤ 10248
 payload_bound room b e = (subst (Bounded room) e b).1
 
--- and a head that was read from `at` on has its six bytes there
-pub head_fits : (s : List ℕ) (at : ℕ) {x : Head} {side : Side} {n : ℕ} → Bounded (length (take (length s - at) (drop at s))) x → x ≡ head.Record side n → at + 6 ≤ length s
-head_fits s at b e =
-    let w = subst (Bounded (length (take (length s - at) (drop at s)))) e b in
-    omega (arith, w.0, length-take (length s - at) (drop at s), length-drop at s)
-
 -- a head has six bytes
-head_long : (s : List ℕ) {side : Side} {n : ℕ} → head_of s ≡ head.Record side n → 6 ≤ length s
+head_long : (s : List ℕ) {side : Side} {n : ℕ} → head_of s ≡ head_there side n → 6 ≤ length s
 unfolding head_of
 head_long s e = either (ltb (length s) 6) _ _ e (λ short p. apart (cc)) (λ long p. ltb-false (length s) 6 long)
 
@@ -111,11 +106,11 @@ module _ (s : List ℕ) (at : ℕ) where
           let b : record { start = at + 6; len = n } ≡ p = cc in
           subst₂ (Found s at) a b (found own n l k f)
 
-      headed : at < length s → (x : Head) → head_of (take (length s - at) (drop at s)) ≡ x → Found s at side p
-      headed h head.Damaged q = let z = next-bad s at h q in apart (cc)
-      headed h (head.Record own n) q =
+      headed : at < length s → (x : Option Head) → head_of (take (length s - at) (drop at s)) ≡ x → Found s at side p
+      headed h None q = let z = next-bad s at h q in apart (cc)
+      headed h (Some m) q =
           let l = head_long (drop at s) (ap head_of (sym (rest_part s at)) ∙ q) in
-          cut own n (omega (arith, length-drop at s)) (ltb (length (drop 6 (drop at s))) n) refl (front_judged s at h q)
+          cut m.side m.len (omega (arith, length-drop at s)) (ltb (length (drop 6 (drop at s))) m.len) refl (front_judged s at h q)
 
       by : (t : Bool) → ltb at (length s) ≡ t → Found s at side p
       by true q = headed (ltb-true at (length s) q) (head_of (take (length s - at) (drop at s))) refl

@@ -1,4 +1,5 @@
 -- The records of an input are its first one, and those of the input behind it.
+use Rattle.std.specs.Prelude.{Option, Some, None}
 use mathlib.Core.List.{List, [], ◌∷◌}
 use mathlib.Core.Path.{◌≡◌, refl, ap, ◌∙◌}
 use Prim.Native.Nat.{ℕ, zero, suc, ◌≤◌, ◌<◌}
@@ -7,7 +8,6 @@ use lib.Dec.{ltb}
 use lib.ListN.{length, drop, length-drop}
 use Rattle.wire.proofs.Branches.{apart, either}
 use Rattle.records.specs.declared.Head.{Head}
-use Rattle.records.specs.declared.Head.TheVariants as head
 use Rattle.records.specs.Record.{Record, head_of, Front, behind, front, Records, from_front, records_up_to, records}
 
 -- behind a record less is left
@@ -16,9 +16,10 @@ unfolding front
 shorter [] r rest e = apart (cc)
 shorter (b ∷ s) r rest e = by (head_of (b ∷ s)) e
   where
-    by : (h : Head) → behind (drop 6 (b ∷ s)) h ≡ Front.sound r rest → length rest < length (b ∷ s)
-    by head.Damaged e = apart (cc)
-    by (head.Record side n) e =
+    by : (h : Option Head) → behind (drop 6 (b ∷ s)) h ≡ Front.sound r rest → length rest < length (b ∷ s)
+    by None e = apart (cc)
+    by (Some m) e =
+        let n = m.len in
         either (ltb (length (drop 6 (b ∷ s))) n) _ _ e (λ cut p. apart (cc)) λ whole p.
         let q : drop n (drop 6 (b ∷ s)) ≡ rest = cc in
         omega (arith, ap length q, length-drop n (drop 6 (b ∷ s)), length-drop 6 (b ∷ s))

@@ -1,5 +1,6 @@
 -- Document 01, "The transcript program": "Standard input holds records: payload length (four bytes, little-endian, at most 10,248), kind (two bytes,
 -- little-endian, 1 client, 2 server), payload, one message."
+use Rattle.std.specs.Prelude.{Option, Some, None}
 use mathlib.Core.{Bool.Bool, Bool.true, Bool.false, List.List, List.[], List.◌∷◌}
 use Rattle.std.specs.Prelude.{ℕ, zero, suc, ◌+◌, ◌*◌}
 use lib.{Dec.ltb, Dec.eqb, ListN.length, ListN.take, ListN.drop}
@@ -7,21 +8,25 @@ use Rattle.wire.specs.Bytes.{if}
 use Rattle.sedna.specs.declared.Side.{Side}
 use Rattle.records.specs.declared.Head.{Head}
 
+-- a sound head
+abbrev pub head_there : Side → ℕ → Option Head
+head_there side len = Some (record { side = side; len = len })
+
 -- the number that bytes spell, "little-endian"
 abbrev pub little : List ℕ → ℕ
 little [] = 0
 little (b ∷ s) = b + 256 * little s
 
 -- "1 client, 2 server": who sent a payload of n bytes; another kind is bad
-abbrev pub sent : ℕ → ℕ → Head
-sent kind n = if (eqb kind 1) (Head.Record Side.Client n) (if (eqb kind 2) (Head.Record Side.Server n) Head.Damaged)
+abbrev pub sent : ℕ → ℕ → Option Head
+sent kind n = if (eqb kind 1) (head_there Side.Client n) (if (eqb kind 2) (head_there Side.Server n) None)
 
 -- the six bytes ahead of a payload: who sent it and its length; "damaged at a bad length or kind or a cut record"
-unfoldable pub head_of : List ℕ → Head
+unfoldable pub head_of : List ℕ → Option Head
 head_of s =
     if (ltb (length s) 6)
-    Head.Damaged
-    (if (ltb 10248 (little (take 4 s))) Head.Damaged (sent (little (take 2 (drop 4 s))) (little (take 4 s))))
+    None
+    (if (ltb 10248 (little (take 4 s))) None (sent (little (take 2 (drop 4 s))) (little (take 4 s))))
 
 -- one record: who sent its payload, and the payload
 pub record Record : Type 0 where
@@ -38,9 +43,9 @@ pub data Front : Type 0 where
   sound : Record → List ℕ → Front
 
 -- the payload behind a head, in what is left of the input
-abbrev pub behind : List ℕ → Head → Front
-behind s Head.Damaged = Front.damaged
-behind s (Head.Record side n) = if (ltb (length s) n) Front.damaged (Front.sound (record_of side (take n s)) (drop n s))
+abbrev pub behind : List ℕ → Option Head → Front
+behind s None = Front.damaged
+behind s (Some m) = if (ltb (length s) m.len) Front.damaged (Front.sound (record_of m.side (take m.len s)) (drop m.len s))
 
 -- an input that has a byte left has a head in front, whole or cut
 unfoldable pub front : List ℕ → Front

@@ -1,58 +1,31 @@
 // What a record is: its head judged, and the record that stands at a place of a transcript.
-ghost use Rattle.std.specs.Prelude.{◌≡◌, ◌<◌, ◌≤◌, length, take, drop};
-ghost use Rattle.records.specs.Record.{little, front};
+ghost use Rattle.std.specs.Prelude.{◌≡◌, drop};
+ghost use Rattle.records.specs.Record.{front};
 ghost use Rattle.records.specs.Places.{located, HeadRead};
 
 use crate::{Head, Next};
 use sedna::Side;
 use wire::Place;
 
-fn wide(x: u8) -> usize
-    ensures { (result ≡ x) × (result < 256) }
-{
-    x as usize
-}
-
-fn payload_length(s: &[u8]) -> usize
-    requires { 6 ≤ length s.now }
-    ensures { result ≡ little (take 4 s.now) }
-{
-    wide(s[0]) + 256 * (wide(s[1]) + 256 * (wide(s[2]) + 256 * wide(s[3])))
-}
-
-// Both bytes count: a kind is no single byte.
-fn kind(s: &[u8]) -> usize
-    requires { 6 ≤ length s.now }
-    ensures { result ≡ little (take 2 (drop 4 s.now)) }
-{
-    wide(s[4]) + 256 * wide(s[5])
-}
-
 // Judges the six bytes that stand in front; fewer are a cut record.
-pub fn judge_head(bytes: &[u8]) -> Head
+#[tactic(auto, unfolding(crate::specs::Record::head_of))]
+pub fn judge_head(bytes: &[u8]) -> Option<Head>
     ensures { HeadRead bytes.now result }
 {
-    if bytes.len() < 6 {
-        return Head::Damaged;
-    }
-    let len = payload_length(bytes);
+    let [a, b, c, d, low, high, ..] = bytes else {
+        return None;
+    };
+    let len = u32::from_le_bytes([*a, *b, *c, *d]) as usize;
     if 10248 < len {
-        return Head::Damaged;
+        return None;
     }
-    let kind = kind(bytes);
-    if kind == 1 {
-        return Head::Record {
-            side: Side::Client,
-            len,
-        };
-    }
-    if kind == 2 {
-        return Head::Record {
-            side: Side::Server,
-            len,
-        };
-    }
-    Head::Damaged
+    // Both bytes count: a kind is no single byte.
+    let side = match u16::from_le_bytes([*low, *high]) {
+        1 => Side::Client,
+        2 => Side::Server,
+        _ => return None,
+    };
+    Some(Head { side, len })
 }
 
 // The record whose head starts at `at`; past the last byte the transcript ends.
@@ -63,15 +36,13 @@ pub fn record_at(bytes: &[u8], at: usize) -> Next
     if n <= at {
         return Next::End;
     }
-    match judge_head(&bytes[at..]) {
-        Head::Damaged => Next::Damaged,
-        Head::Record { side, len } => {
-            let start = at + 6;
-            if n - start < len {
-                return Next::Damaged;
-            }
-            let payload = Place { start, len };
-            Next::Record { side, payload }
-        }
+    let Some(Head { side, len }) = judge_head(&bytes[at..]) else {
+        return Next::Damaged;
+    };
+    let start = at + 6;
+    if n - start < len {
+        return Next::Damaged;
     }
+    let payload = Place { start, len };
+    Next::Record { side, payload }
 }

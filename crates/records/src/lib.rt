@@ -11,12 +11,12 @@ pub use heads::{judge_head, record_at};
 
 // The six bytes ahead of a payload, judged: who sent it and how long it is.
 #[derive(Clone, Copy)]
-pub enum Head {
-    Record { side: Side, len: usize },
-    Damaged,
+pub struct Head {
+    pub side: Side,
+    pub len: usize,
 }
 
-// What stands at a place of a transcript.
+// What stands at a place of a transcript: three ways, more than an Option or a Result has.
 #[derive(Clone, Copy)]
 pub enum Next {
     Record { side: Side, payload: Place },

@@ -1,10 +1,12 @@
 -- From the step's answer to a record's.
+use Rattle.std.specs.Prelude.{Err}
+use Rattle.sedna_read.specs.Places.{read_as_message}
 use Rattle.session.specs.Step.{by_places as stepped_as}
 use Rattle.sedna_read.specs.Reading.{answered as parsed}
 use mathlib.Core.Bool.{Bool, true, false}
 use mathlib.Core.List.{List}
-use mathlib.Core.Path.{◌≡◌, refl, sym}
-use Prim.Native.Nat.{ℕ, ◌+◌}
+use mathlib.Core.Path.{◌≡◌, refl, sym, ap}
+use Prim.Native.Nat.{ℕ, ◌+◌, ◌-◌}
 use native.Mathlib.Omega.{arith}
 use lib.Dec.{ltb, eqb}
 use lib.ListN.{length, take, drop}
@@ -19,9 +21,8 @@ use Rattle.sedna.specs.Message.{Body, Message}
 use Rattle.wire.proofs.Branches.{apart, either}
 use Rattle.sedna_laws.proofs.Heads.{head_back}
 use Rattle.sedna_laws.proofs.Refusals.{reading-refusals}
-use Rattle.sedna_read.specs.declared.Places.{Places}
-use Rattle.sedna_read.specs.declared.Reading.TheVariants as read
-use Rattle.sedna_read.specs.Places.{located}
+use Rattle.sedna_read.specs.declared.{Places.Places, Reading.Reading}
+use Rattle.sedna_read.specs.Places.{located, places_of}
 use Rattle.sedna_read.specs.Reading.{Heading, heading, Answer, body_field, after_head, reading}
 use Rattle.session.specs.declared.Session.{Session}
 use Rattle.session.specs.Machine.{next, refused}
@@ -56,7 +57,7 @@ module _ (s : Session) (side : Side) (p : List ℕ) where
       if t (record { session = s; answer = Answer.refused OutOfOrder })
       (record { session = record { phase = to; version = version_after m.instruction s.version m.body }; answer = Answer.accepted m n })
 
-  refused_moved : (m : Message) (n to : ℕ) (x : Refusal) (t : Bool) → n ≡ 8 + int_at p 4 → located (moved m n to t).answer ≡ read.Refused x
+  refused_moved : (m : Message) (n to : ℕ) (x : Refusal) (t : Bool) → n ≡ 8 + int_at p 4 → located (moved m n to t).answer ≡ Err x
       → if (ltb n (length p)) (answer_of 7 s) (by_number (stepped_as (moved m n to t))) ≡ answer_of (refused_with p x) s
   refused_moved m n to x true c e =
       let same : OutOfOrder ≡ x = cc in
@@ -67,17 +68,19 @@ module _ (s : Session) (side : Side) (p : List ℕ) where
       by false = refl
   refused_moved m n to x false c e = apart (cc)
 
-  taken_moved : (m : Message) (n to : ℕ) (i : ℕ) (places : Places) (k : ℕ) (t : Bool) → located (moved m n to t).answer ≡ read.Message i places k
+  taken_moved : (m : Message) (n to : ℕ) (i : ℕ) (places : Places) (k : ℕ) (t : Bool) → located (moved m n to t).answer ≡ read_as_message i places k
       → if (ltb n (length p)) (answer_of 7 s) (by_number (stepped_as (moved m n to t))) ≡ if (ltb k (length p)) (answer_of 7 s) (answer_of 0 (moved m n to t).session)
   taken_moved m n to i places k true e = apart (cc)
-  taken_moved m n to i places k false e = let same : n ≡ k = cc in rw same
+  taken_moved m n to i places k false e =
+      let read : ◌≡◌ {A = Reading} (record { instruction = m.instruction; places = places_of 8 (n - 8) m.body; count = n }) (record { instruction = i; places = places; count = k }) = cc in
+      rw (ap (λ (x : Reading). x.count) read)
 
   -- the step refused
-  pub answer-refused : (x : Refusal) → (stepped s side p).answer ≡ read.Refused x → answer_of (refused_with p x) s ≡ answered s (record_of side p)
+  pub answer-refused : (x : Refusal) → (stepped s side p).answer ≡ Err x → answer_of (refused_with p x) s ≡ answered s (record_of side p)
   unfolding stepped answered
   answer-refused x h = sym (by (reading side p) refl h)
     where
-      by : (a : Answer) → reading side p ≡ a → located (outcome s a).answer ≡ read.Refused x → after_reading s (record_of side p) a ≡ answer_of (refused_with p x) s
+      by : (a : Answer) → reading side p ≡ a → located (outcome s a).answer ≡ Err x → after_reading s (record_of side p) a ≡ answer_of (refused_with p x) s
       by (Answer.refused r) e h =
           let same : r ≡ x = cc in
           let few = reading-refusals side p r e in
@@ -86,12 +89,12 @@ module _ (s : Session) (side : Side) (p : List ℕ) where
           rw e (refused_moved m n (next s.phase s.version m.instruction) x (eqb (next s.phase s.version m.instruction) refused) (read_count side p m n e) h)
 
   -- the step took a message of k bytes
-  pub answer-taken : (i : ℕ) (places : Places) (k : ℕ) → (stepped s side p).answer ≡ read.Message i places k
+  pub answer-taken : (i : ℕ) (places : Places) (k : ℕ) → (stepped s side p).answer ≡ read_as_message i places k
       → if (ltb k (length p)) (answer_of 7 s) (answer_of 0 (stepped s side p).session) ≡ answered s (record_of side p)
   unfolding stepped answered
   answer-taken i places k h = sym (by (reading side p) refl h)
     where
-      by : (a : Answer) → reading side p ≡ a → located (outcome s a).answer ≡ read.Message i places k
+      by : (a : Answer) → reading side p ≡ a → located (outcome s a).answer ≡ read_as_message i places k
           → after_reading s (record_of side p) a ≡ if (ltb k (length p)) (answer_of 7 s) (answer_of 0 (outcome s (reading side p)).session)
       by (Answer.refused r) e h = apart (cc)
       by (Answer.accepted m n) e h = rw e (taken_moved m n (next s.phase s.version m.instruction) i places k (eqb (next s.phase s.version m.instruction) refused) h)

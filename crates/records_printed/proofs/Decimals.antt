@@ -59,6 +59,27 @@ length_most (suc k) n h = by (ltb n 10) refl (length_most k (n / 10))
         let q = shorter (omega arith) in
         omega arith
 
+-- .. and from 10 ^ k on more than k
+pub length_least : (k n : ℕ) → 10 ^ k ≤ n → suc k ≤ length (decimal n)
+length_least zero n h = length_some n
+length_least (suc k) n h =
+    let p : 10 ^ suc k ≡ 10 ^ k * 10 = pow-suc 10 k in
+    let some : 1 ≤ 10 ^ k = pow-some k in
+    let q = length_least k (n / 10) (omega arith) in
+    let l = length_more n (omega arith) in
+    omega arith
+  where
+    pow-some : (i : ℕ) → 1 ≤ 10 ^ i
+    pow-some zero = omega arith
+    pow-some (suc i) = let p : 10 ^ suc i ≡ 10 ^ i * 10 = pow-suc 10 i in let q = pow-some i in omega arith
+
+pub digits-of : (n k : ℕ) → 10 ^ k ≤ n → n < 10 * 10 ^ k → length (decimal n) ≡ k + 1
+digits-of n k h l =
+    let p : 10 ^ suc k ≡ 10 ^ k * 10 = pow-suc 10 k in
+    let a = length_least k n h in
+    let b = length_most k n (omega arith) in
+    omega arith
+
 -- the first i digits of a number, where `rest` has them: none are left at 0
 abbrev pub ahead : ℕ → ℕ → List ℕ
 ahead zero rest = []

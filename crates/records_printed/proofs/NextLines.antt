@@ -1,4 +1,6 @@
 -- The next line, by what stands in front; and an input read line by line.
+use Rattle.std.specs.Prelude.{Result}
+use Rattle.wire.specs.declared.Refusal.{Refusal}
 use mathlib.Core.Bool.{Bool, true, false}
 use mathlib.Core.List.{List, ◌++◌, append-nil}
 use mathlib.Core.Path.{◌≡◌, sym, ap, ◌∙◌}
@@ -6,7 +8,6 @@ use Prim.Native.Nat.{ℕ, ◌≤◌}
 use native.Mathlib.Omega.{arith}
 use lib.ListN.{length, take, drop}
 use Rattle.wire.specs.Bytes.{if}
-use Rattle.wire.specs.declared.Counted.{Counted}
 use Rattle.wire.specs.declared.Place.{Place}
 use Rattle.sedna.specs.declared.Side.{Side}
 use Rattle.session.specs.declared.Session.{Session}
@@ -33,18 +34,18 @@ last-short false u = by (closed_of u)
     by true = omega arith
     by false = omega arith
 
-last-put : (d : List ℕ) (b : Bool) (u : Session) {p : Counted} {e : List ℕ} (x : CountedLine) → Puts d 0 (last_line b u) p e → x ≡ end_line p → PutsLine end_line d 0 (last_line b u) x e
+last-put : (d : List ℕ) (b : Bool) (u : Session) {p : Result ℕ Refusal} {e : List ℕ} (x : Result CountedLine Refusal) → Puts d 0 (last_line b u) p e → x ≡ end_line p → PutsLine end_line d 0 (last_line b u) x e
 last-put d b u x w t = record { answers = t ∙ ap end_line w.answers; leaves = w.leaves; short = last-short b u }
 
-module _ (d : List ℕ) (n : ℕ) (u : Session) (s : List ℕ) (x : CountedLine) (e : List ℕ) where
+module _ (d : List ℕ) (n : ℕ) (u : Session) (s : List ℕ) (x : Result CountedLine Refusal) (e : List ℕ) where
   -- what the next line answers and leaves in the output d
   abbrev Next : Front → Type 0
   Next f = PutsLine (goes_on u f) d 0 (next_line n u f) x e
 
-  pub put-end : {p : Counted} → located 0 (front (drop 0 s)) ≡ next.End → Puts d 0 (last_line false u) p e → x ≡ end_line p → Next (front s)
+  pub put-end : {p : Result ℕ Refusal} → located 0 (front (drop 0 s)) ≡ next.End → Puts d 0 (last_line false u) p e → x ≡ end_line p → Next (front s)
   put-end q w t = rw (next-end s 0 q) (last-put d false u x w t)
 
-  pub put-damaged : {p : Counted} → located 0 (front (drop 0 s)) ≡ next.Damaged → Puts d 0 (last_line true u) p e → x ≡ end_line p → Next (front s)
+  pub put-damaged : {p : Result ℕ Refusal} → located 0 (front (drop 0 s)) ≡ next.Damaged → Puts d 0 (last_line true u) p e → x ≡ end_line p → Next (front s)
   put-damaged q w t = rw (next-damaged s 0 q) (last-put d true u x w t)
 
   pub put-found : {side : Side} {p : Place} (payload : List ℕ) → located 0 (front (drop 0 s)) ≡ next.Record side p → payload ≡ take p.len (drop p.start s)

@@ -1,4 +1,6 @@
 -- The two runs over a transcript: how many bytes are left to print, and what is ahead of the output.
+use Rattle.std.specs.Prelude.{Result}
+use Rattle.std.specs.Prelude.{Ok, Err}
 use mathlib.Core.Bool.{Bool}
 use mathlib.Core.List.{List, ◌++◌}
 use mathlib.Core.Path.{◌≡◌, refl, sym, ap, subst, ◌∙◌}
@@ -14,7 +16,6 @@ use Rattle.wire.proofs.Splices.{Ahead, start, step, last, put_at-fits}
 use Rattle.sedna.specs.declared.Side.{Side}
 use Rattle.session.specs.declared.Session.{Session}
 use Rattle.session.specs.Step.{fresh_session}
-use Rattle.wire.specs.declared.Counted.TheVariants as counted
 use Rattle.records_printed.specs.declared.Answered.{Answered}
 use Rattle.records_printed.specs.declared.CountedLine.{CountedLine}
 use Rattle.records_printed.specs.declared.CountedLine.TheVariants as line
@@ -83,7 +84,7 @@ module _ (s : List ℕ) (room : ℕ) (u : Session) (n at to : ℕ) (w : Sized s 
       omega (arith, w.size)
 
   pub sized_next : {side : Side} {p : Place} (v : Session) (count end : ℕ) → Found s at side p → v ≡ (answered u (record_at s side p)).session
-      → count ≡ length (line_in n u (record_at s side p)) → in_room room 0 (to + count) ≡ counted.Count end → Sized s v (n + 1) (p.start + p.len) end
+      → count ≡ length (line_in n u (record_at s side p)) → in_room room 0 (to + count) ≡ Ok end → Sized s v (n + 1) (p.start + p.len) end
   sized_next v count end f q e h = rw (q, (counted-there room 0 _ end h).0) (record {
     stands = stands-next s n at w.stands f;
     size = line_first count f e;
@@ -91,10 +92,10 @@ module _ (s : List ℕ) (room : ℕ) (u : Session) (n at to : ℕ) (w : Sized s 
 
   -- a line that finds no room
   pub sized_not : {side : Side} {p : Place} (count : ℕ) (x : Refusal) → Found s at side p → count ≡ length (line_in n u (record_at s side p))
-      → in_room room 0 (to + count) ≡ counted.Refused x → counted.Refused x ≡ in_room room 0 (length (printed s))
+      → in_room room 0 (to + count) ≡ Err x → Err x ≡ in_room room 0 (length (printed s))
   sized_not count x f e h =
       let t = refused-short room 0 _ x h in
-      ap counted.Refused t.0 ∙ sym (room-short room 0 _ (omega (arith, t.1, line_first count f e)))
+      ap Err t.0 ∙ sym (room-short room 0 _ (omega (arith, t.1, line_first count f e)))
 
   -- the last line
   pub sized_last : (b : Bool) (more : ℕ) → to_print s u n at ≡ last_line b u → more ≡ length (last_line b u) → in_room room 0 (to + more) ≡ in_room room 0 (length (printed s))
@@ -104,12 +105,12 @@ module _ (s : List ℕ) (room : ℕ) (u : Session) (n at to : ℕ) (w : Sized s 
       ap (in_room room 0) k
 
 -- a record's line that was put where there is room
-pub record Taken (out : List ℕ) (to n : ℕ) (u : Session) (r : Record) (x : CountedLine) (e : List ℕ) : Type 0 where
+pub record Taken (out : List ℕ) (to n : ℕ) (u : Session) (r : Record) (x : Result CountedLine Refusal) (e : List ℕ) : Type 0 where
   pub there : to + length (line_in n u r) ≤ length out
-  pub answers : x ≡ line.Record (length (line_in n u r)) (answered u r).session
+  pub answers : x ≡ Ok (line.Record (length (line_in n u r)) (answered u r).session)
   pub leaves : e ≡ put_at out to (line_in n u r)
 
-pub line_known : {x : CountedLine} {count k : ℕ} {v u : Session} → x ≡ line.Record k u → x ≡ line.Record count v → (count ≡ k) × (v ≡ u)
+pub line_known : {x : Result CountedLine Refusal} {count k : ℕ} {v u : Session} → x ≡ Ok (line.Record k u) → x ≡ Ok (line.Record count v) → (count ≡ k) × (v ≡ u)
 line_known e f = (cc, cc)
 
 -- the second run: what is still to print is ahead of the output
@@ -134,7 +135,7 @@ module _ (s d out : List ℕ) (u : Session) (n at to : ℕ) (w : Printing s d ou
       omega (arith, w.ahead.fits)
 
   -- so it was put there
-  pub line_taken : {payload e : List ℕ} {side : Side} {p : Place} {x : CountedLine} → Found s at side p → payload ≡ take p.len (drop p.start s)
+  pub line_taken : {payload e : List ℕ} {side : Side} {p : Place} {x : Result CountedLine Refusal} → Found s at side p → payload ≡ take p.len (drop p.start s)
       → PutsLine (record_line (answered u (record_of side payload)).session) out to (line_in n u (record_of side payload)) x e → Taken out to n u (record_at s side p) x e
   line_taken f q w =
       let h = printing_room f in

@@ -1,11 +1,11 @@
 -- A record's line, where it fits and where it does not.
+use Rattle.std.specs.Prelude.{Ok, Err}
 use mathlib.Core.List.{List}
 use mathlib.Core.Path.{◌≡◌, sym, ap, ◌∙◌}
 use Prim.Native.Nat.{ℕ, ◌+◌, ◌≤◌}
 use native.Mathlib.Omega.{arith}
 use lib.ListN.{length}
 use Rattle.wire.specs.Call.{in_room, put_at}
-use Rattle.wire.specs.declared.Counted.TheVariants as counted
 use Rattle.wire.specs.declared.Refusal.{Refusal}
 use Rattle.wire.proofs.Call.{room-there, refused-short}
 use Rattle.wire.proofs.Splices.{put_at_not}
@@ -22,7 +22,7 @@ use Rattle.records_printed.specs.inner.Line.{width_of, Measures}
 use Rattle.records_printed.proofs.Lines.{line_width}
 
 -- text that finds no room
-pub text-refused : (d : List ℕ) (at : ℕ) (text : List ℕ) (x : Refusal) → in_room (length d) at (length text) ≡ counted.Refused x → Untouched d at text x
+pub text-refused : (d : List ℕ) (at : ℕ) (text : List ℕ) (x : Refusal) → in_room (length d) at (length text) ≡ Err x → Untouched d at text x
 text-refused d at text x e = let h = refused-short _ _ _ x e in (h.0, put_at_not d at text h.1)
 
 -- a record was answered, and its line measured
@@ -34,16 +34,16 @@ module _ (n : ℕ) (s : Session) (r : Record) (a : Answered) (e : a ≡ answered
   line-short = omega (arith, line-count, m.short)
 
   module _ (d : List ℕ) (at : ℕ) where
-    pub line-put : {count : ℕ} {after : List ℕ} → in_room (length d) at (width_of w) ≡ counted.Count count → after ≡ put_at d at (line n r a.number)
-        → PutsLine (record_line (answered s r).session) d at (line_in n s r) (line.Record count a.session) after
+    pub line-put : {count : ℕ} {after : List ℕ} → in_room (length d) at (width_of w) ≡ Ok count → after ≡ put_at d at (line n r a.number)
+        → PutsLine (record_line (answered s r).session) d at (line_in n s r) (Ok (line.Record count a.session)) after
     line-put {count} h p = record {
-      answers = rw (← line-count, h) (ap (λ (x : Answered). line.Record count x.session) e);
+      answers = rw (← line-count, h) (ap (λ (x : Answered). (Ok (line.Record count x.session))) e);
       leaves = p ∙ ap (λ (x : Answered). put_at d at (line n r x.number)) e;
       short = line-short;
     }
 
-    pub line_not : {x : Refusal} → in_room (length d) at (width_of w) ≡ counted.Refused x
-        → PutsLine (record_line (answered s r).session) d at (line_in n s r) (line.Refused x) d
+    pub line_not : {x : Refusal} → in_room (length d) at (width_of w) ≡ Err x
+        → PutsLine (record_line (answered s r).session) d at (line_in n s r) (Err x) d
     line_not {x} h = record {
       answers = rw (← line-count, h);
       leaves = sym (text-refused d at (line_in n s r) x (ap (in_room (length d) at) (sym line-count) ∙ h)).1;
@@ -52,5 +52,5 @@ module _ (n : ℕ) (s : Session) (r : Record) (a : Answered) (e : a ≡ answered
 
 -- where there is room, the answer tells the line's length and the session after the record
 pub line-there : (room at n : ℕ) (s : Session) (r : Record) → at + length (line_in n s r) ≤ room
-    → record_line (answered s r).session (in_room room at (length (line_in n s r))) ≡ line.Record (length (line_in n s r)) (answered s r).session
+    → record_line (answered s r).session (in_room room at (length (line_in n s r))) ≡ Ok (line.Record (length (line_in n s r)) (answered s r).session)
 line-there room at n s r h = ap (record_line (answered s r).session) (room-there room at _ h)

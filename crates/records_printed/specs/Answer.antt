@@ -1,4 +1,6 @@
 -- Document 01, "The transcript program": what a record is answered, "0 or the refusal; payload bytes after the message count as 7".
+use Rattle.std.specs.Prelude.{Result, Ok, Err}
+use Rattle.wire.specs.declared.Refusal.{Refusal}
 use Rattle.std.specs.Prelude.{ℕ}
 use lib.{Dec.ltb, ListN.length}
 use Rattle.wire.specs.{Bytes.if, Refusals.number_of, declared.Refusal.TheVariants.BytesLeftOver}
@@ -8,9 +10,9 @@ use Rattle.records_printed.specs.declared.Answered.{Answered}
 use Rattle.records.specs.Record.{Record}
 
 -- "0 or the refusal"
-abbrev pub number_in : Reading → ℕ
-number_in (Reading.Message instruction places n) = 0
-number_in (Reading.Refused r) = number_of r
+abbrev pub number_in : Result Reading Refusal → ℕ
+number_in (Ok m) = 0
+number_in (Err r) = number_of r
 
 -- the session's step, by its number
 abbrev pub by_number : Stepped → Answered

@@ -1,7 +1,8 @@
 -- Document 01, "The transcript program", record by record: what is printed for what was read of one record, and how the program goes on.
+use Rattle.std.specs.Prelude.{Result}
+use Rattle.wire.specs.declared.Refusal.{Refusal}
 use mathlib.Core.{Bool.true, Bool.false, List.List, List.[], List.◌++◌, Path.◌≡◌}
 use Rattle.std.specs.Prelude.{ℕ, ◌+◌}
-use Rattle.wire.specs.declared.Counted.{Counted}
 use Rattle.session.specs.declared.Session.{Session}
 use Rattle.records.specs.{Places.reads, Places.unread, Record.Front, Record.front, Record.records}
 use Rattle.records_printed.specs.{declared.CountedLine.CountedLine, Answer.answered, Line.line_in, Output.record_line, Output.end_line}
@@ -14,7 +15,7 @@ next_line n s Front.damaged = last_line true s
 next_line n s (Front.sound r rest) = line_in n s r
 
 -- behind a record's line it goes on, with the session after the record; behind the last line it ends
-abbrev pub goes_on : Session → Front → Counted → CountedLine
+abbrev pub goes_on : Session → Front → Result ℕ Refusal → Result CountedLine Refusal
 goes_on s Front.end = end_line
 goes_on s Front.damaged = end_line
 goes_on s (Front.sound r rest) = record_line (answered s r).session

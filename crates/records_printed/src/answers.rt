@@ -6,7 +6,6 @@ ghost use Rattle.records.specs.Record.{record_of};
 
 use crate::Answered;
 use sedna::Side;
-use sedna_read::Reading;
 use session::Session;
 use wire::Refusal;
 
@@ -15,14 +14,11 @@ use wire::Refusal;
 fn refused_with(refusal: Refusal, payload: &[u8]) -> u8
     ensures { result ≡ refused_with payload.now refusal }
 {
-    let number = wire::number(refusal);
-    if number == 9 {
-        let count = 8 + wire::get_int(payload, 4) as usize;
-        if count < payload.len() {
-            return 7;
-        }
+    if refusal == Refusal::OutOfOrder && 8 + (wire::get_int(payload, 4) as usize) < payload.len() {
+        Refusal::BytesLeftOver.number()
+    } else {
+        refusal.number()
     }
-    number
 }
 
 // What a record is answered, and the session after it. One call of the step reads the payload; where
@@ -31,21 +27,19 @@ pub fn answer(session: Session, side: Side, payload: &[u8]) -> Answered
     ensures { result ≡ answered session (record_of side payload.now) }
 {
     let step = session::step(session, side, payload);
-    let reading = step.answer;
-    match reading {
-        Reading::Refused(refusal) => Answered {
+    let after = step.session;
+    match step.answer {
+        Err(refusal) => Answered {
             number: refused_with(refusal, payload),
             session,
         },
-        Reading::Message { count, .. } => {
-            let after = step.session;
-            if count < payload.len() {
-                return Answered { number: 7, session };
-            }
-            Answered {
-                number: 0,
-                session: after,
-            }
+        Ok(m) if m.count < payload.len() => {
+            let number = Refusal::BytesLeftOver.number();
+            Answered { number, session }
         }
+        Ok(_) => Answered {
+            number: 0,
+            session: after,
+        },
     }
 }

@@ -2,6 +2,9 @@
 // slices. A program only reads and prints.
 #![tactic(auto)]
 
+ghost use Rattle.std.specs.Prelude.{◌≡◌, ◌≤◌};
+ghost use Rattle.records_printed.specs.inner.Line.{width_of};
+
 use session::Session;
 use wire::Refusal;
 
@@ -16,7 +19,8 @@ pub use line::{put_last_line, put_line};
 pub use next_line::put_next_line;
 pub use whole::replay;
 
-// What a record is answered, 0 or the refusal's number, and the session after it.
+// What a record is answered, 0 or the refusal's number, and the session after it. A number, not an
+// Option: 7 may stand for the refusal of the step, and `answered` (specs/Answer.antt) has numbers.
 #[derive(Clone, Copy)]
 pub struct Answered {
     pub number: u8,
@@ -27,12 +31,11 @@ pub struct Answered {
 pub const LONGEST_LINE: usize = 38;
 
 // How many bytes of a line were put into lent output: a record's, with the session to go on with;
-// or the last one. Or there was no room for it, and then nothing was stepped.
+// or the last one.
 #[derive(Clone, Copy)]
 pub enum CountedLine {
     Record { count: usize, session: Session },
     Last(usize),
-    Refused(Refusal),
 }
 
 // How many characters the three fields of a line have that differ in length.
@@ -41,4 +44,14 @@ struct Widths {
     number: usize,
     instruction: usize,
     answer: usize,
+}
+
+impl Widths {
+    // A line has five more.
+    fn line(self) -> usize
+        requires { width_of self ≤ 38 }
+        ensures { result ≡ width_of self }
+    {
+        self.number + self.instruction + self.answer + 5
+    }
 }

@@ -13,7 +13,7 @@ use crate::decimal::{count_digits, put_digits};
 use crate::{CountedLine, Widths};
 use sedna::Side;
 use session::Session;
-use wire::{Counted, in_room};
+use wire::{Refusal, in_room};
 
 fn letter(side: Side) -> u8
     ensures { result ≡ letter_of side }
@@ -28,18 +28,17 @@ fn put_sender(out: &mut [u8], at: usize, side: Side)
     requires { at + 3 ≤ length out.old }
     ensures { out.new ≡ put_at out.old at (space ∷ letter_of side ∷ space ∷ []) }
 {
-    out[at] = b' ';
-    out[at + 1] = letter(side);
-    out[at + 2] = b' ';
+    wire::put_bytes(out, at, &[b' ', letter(side), b' ']);
 }
 
 fn count_instruction(payload: &[u8]) -> usize
     ensures { Counts (instruction payload.now) 10 result }
 {
     if payload.len() < 4 {
-        return 1;
+        1
+    } else {
+        count_digits(wire::get_int(payload, 0) as u64)
     }
-    count_digits(wire::get_int(payload, 0) as u64)
 }
 
 fn put_instruction(out: &mut [u8], at: usize, payload: &[u8], count: usize)
@@ -48,9 +47,9 @@ fn put_instruction(out: &mut [u8], at: usize, payload: &[u8], count: usize)
 {
     if payload.len() < 4 {
         wire::put_byte(out, at, b'-');
-        return;
+    } else {
+        put_digits(out, at, wire::get_int(payload, 0) as u64, count);
     }
-    put_digits(out, at, wire::get_int(payload, 0) as u64, count);
 }
 
 // The fields of a line, measured.
@@ -99,40 +98,45 @@ pub fn put_line(
     session: Session,
     side: Side,
     payload: &[u8],
-) -> CountedLine
+) -> Result<CountedLine, Refusal>
     ensures { PutsLine (record_line (answered session (record_of side payload.now)).session) out.old at
         (line_in number session (record_of side payload.now)) result out.new }
 {
     let a = answer(session, side, payload);
     let w = measure(number, payload, a.number);
-    match in_room(out.len(), at, w.number + w.instruction + w.answer + 5) {
-        Counted::Refused(refusal) => CountedLine::Refused(refusal),
-        Counted::Count(count) => {
-            put_fields(out, at, number, side, payload, a.number, w);
-            let session = a.session;
-            CountedLine::Record { count, session }
-        }
+    let count = in_room(out.len(), at, w.line())?;
+    put_fields(out, at, number, side, payload, a.number, w);
+    Ok(CountedLine::Record {
+        count,
+        session: a.session,
+    })
+}
+
+// How the session stands at the input's end, or that the input was damaged.
+// A flag: the two ends differ in a word.
+pub(crate) fn last_line(damaged: bool, session: Session) -> &'static [u8]
+    ensures { result.now ≡ last_line damaged session }
+{
+    if damaged {
+        b"damaged\n"
+    } else if session::closed(session) {
+        b"closed\n"
+    } else {
+        b"open\n"
     }
 }
 
-fn put_counted(out: &mut [u8], at: usize, text: &[u8]) -> Counted
-    ensures { Puts out.old at text.now result out.new }
+// The last line, from `at` on.
+pub fn put_last_line(
+    out: &mut [u8],
+    at: usize,
+    damaged: bool,
+    session: Session,
+) -> Result<usize, Refusal>
+    ensures { Puts out.old at (last_line damaged session) result out.new }
 {
+    let text = last_line(damaged, session);
     let counted = in_room(out.len(), at, text.len());
     wire::put_bytes(out, at, text);
     counted
-}
-
-// The last line, from `at` on: how the session stands at the input's end, or that the input was
-// damaged.
-pub fn put_last_line(out: &mut [u8], at: usize, damaged: bool, session: Session) -> Counted
-    ensures { Puts out.old at (last_line damaged session) result out.new }
-{
-    if damaged {
-        return put_counted(out, at, b"damaged\n");
-    }
-    if session::closed(session) {
-        return put_counted(out, at, b"closed\n");
-    }
-    put_counted(out, at, b"open\n")
 }

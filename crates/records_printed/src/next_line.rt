@@ -8,20 +8,22 @@ use crate::CountedLine;
 use crate::line::{put_last_line, put_line};
 use records::{Next, record_at};
 use session::Session;
-use wire::{Counted, part};
+use wire::{Refusal, part};
 
-fn last_of(counted: Counted) -> CountedLine
+fn last_of(counted: Result<usize, Refusal>) -> Result<CountedLine, Refusal>
     ensures { result ≡ end_line counted }
 {
-    match counted {
-        Counted::Count(count) => CountedLine::Last(count),
-        Counted::Refused(refusal) => CountedLine::Refused(refusal),
-    }
+    counted.map(CountedLine::Last)
 }
 
 // What is printed for the record in front of `bytes`, from the front of the output on: its line, or
 // the last line where there is none or it is damaged. LONGEST_LINE bytes are always enough.
-pub fn put_next_line(out: &mut [u8], number: u64, session: Session, bytes: &[u8]) -> CountedLine
+pub fn put_next_line(
+    out: &mut [u8],
+    number: u64,
+    session: Session,
+    bytes: &[u8],
+) -> Result<CountedLine, Refusal>
     ensures { PutsLine (goes_on session (front bytes.now)) out.old 0
         (next_line number session (front bytes.now)) result out.new }
 {

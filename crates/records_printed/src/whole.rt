@@ -3,61 +3,43 @@
 ghost use Rattle.std.specs.Prelude.{◌≡◌, ◌+◌, ◌≤◌, length};
 ghost use Rattle.wire.specs.Call.{in_room, put_at};
 ghost use Rattle.records_printed.specs.Output.{Puts};
-ghost use Rattle.records_printed.specs.Transcript.{last_line, printed};
+ghost use Rattle.records_printed.specs.Transcript.{printed};
 
 use crate::CountedLine;
 use crate::answers::answer;
-use crate::line::{measure, put_last_line, put_line};
+use crate::line::{last_line, measure, put_last_line, put_line};
 use records::{Next, record_at};
 use session::Session;
-use wire::{Counted, in_room, part};
-
-fn last_length(damaged: bool, session: Session) -> usize
-    ensures { result ≡ length (last_line damaged session) }
-{
-    if damaged {
-        return 8;
-    }
-    if session::closed(session) {
-        return 7;
-    }
-    5
-}
+use wire::{Refusal, in_room, part};
 
 // So many bytes more behind the first ones, all counted.
-fn with_more(room: usize, to: usize, more: usize) -> Counted
+fn with_more(room: usize, to: usize, more: usize) -> Result<usize, Refusal>
     ensures { result ≡ in_room room 0 (to + more) }
 {
-    match in_room(room, to, more) {
-        Counted::Refused(refusal) => Counted::Refused(refusal),
-        Counted::Count(count) => Counted::Count(to + count),
-    }
+    Ok(to + in_room(room, to, more)?)
 }
 
 // How many bytes are printed, where the room is enough for them.
-fn size_within(bytes: &[u8], room: usize) -> Counted
+fn size_within(bytes: &[u8], room: usize) -> Result<usize, Refusal>
     ensures { result ≡ in_room room 0 (length (printed bytes.now)) }
 {
     let mut session = Session::FRESH;
     let mut number: u64 = 1;
     let mut at: usize = 0;
     let mut to: usize = 0;
+    // No `for`: each record tells where the next one starts.
     loop {
         match record_at(bytes, at) {
-            Next::End => return with_more(room, to, last_length(false, session)),
-            Next::Damaged => return with_more(room, to, last_length(true, session)),
+            Next::End => return with_more(room, to, last_line(false, session).len()),
+            Next::Damaged => return with_more(room, to, last_line(true, session).len()),
             Next::Record { side, payload } => {
                 let found = part(bytes, payload);
                 let a = answer(session, side, found);
                 let w = measure(number, found, a.number);
-                match with_more(room, to, w.number + w.instruction + w.answer + 5) {
-                    Counted::Refused(refusal) => return Counted::Refused(refusal),
-                    Counted::Count(end) => to = end,
-                }
+                to = with_more(room, to, w.line())?;
                 number += 1;
                 at = payload.start + payload.len;
-                let after = a.session;
-                session = after;
+                session = a.session;
             }
         }
     }
@@ -72,25 +54,27 @@ fn put_all(bytes: &[u8], out: &mut [u8])
     let mut number: u64 = 1;
     let mut at: usize = 0;
     let mut to: usize = 0;
+    // No `for`: each record tells where the next one starts.
     loop {
         match record_at(bytes, at) {
             Next::End => {
-                put_last_line(out, to, false, session);
+                let _ = put_last_line(out, to, false, session);
                 return;
             }
             Next::Damaged => {
-                put_last_line(out, to, true, session);
+                let _ = put_last_line(out, to, true, session);
                 return;
             }
             Next::Record { side, payload } => {
                 let found = part(bytes, payload);
-                let CountedLine::Record {
-                    count,
-                    session: after,
-                } = put_line(out, to, number, session, side, found)
+                let Ok(
+                    CountedLine::Record {
+                        count,
+                        session: after,
+                    },
+                ) = put_line(out, to, number, session, side, found)
                 else {
-                    // Not reached: there is room.
-                    return;
+                    unreachable!()
                 };
                 to += count;
                 number += 1;
@@ -102,12 +86,10 @@ fn put_all(bytes: &[u8], out: &mut [u8])
 }
 
 // What the transcript program prints for a transcript, from the front of the output on.
-pub fn replay(bytes: &[u8], out: &mut [u8]) -> Counted
+pub fn replay(bytes: &[u8], out: &mut [u8]) -> Result<usize, Refusal>
     ensures { Puts out.old 0 (printed bytes.now) result out.new }
 {
-    let size = size_within(bytes, out.len());
-    if let Counted::Count(_) = size {
-        put_all(bytes, out);
-    }
-    size
+    let size = size_within(bytes, out.len())?;
+    put_all(bytes, out);
+    Ok(size)
 }

@@ -1,15 +1,15 @@
 // Reading, writing and the session for programs in C and Rust: numbers and slices in, numbers
 // out. An answer above 2^63 is a refusal, its number on top of 2^63.
-#![tactic(auto)]
+#![tactic(auto, using(answer_c::proofs::Codes::by_code))]
 
 ghost use Rattle.std.specs.Prelude.{◌++◌, ◌≡◌, ◌≤◌, length, take, drop};
 ghost use Rattle.sedna.specs.Message.{Url, Body, message};
 ghost use Rattle.sedna_read.specs.Places.{option_at};
-ghost use Rattle.sedna_c.specs.Codes.{field_list, fields_of, TellsOption};
+ghost use Rattle.sedna_c.specs.Codes.{fields_of, TellsOption};
 ghost use Rattle.sedna_c.specs.Codes.{WritesMessageByCode, WritesOptionsByCode};
 
 use answer_c::{counted_code, refusal_code};
-use sedna_read::{OptionPlace, Places, UrlPlace};
+use sedna_read::{OptionPlace, Places};
 use wire::{Place, Refusal};
 
 mod sessions;
@@ -17,70 +17,75 @@ pub mod sides;
 
 pub use sessions::{kdr_closed, kdr_fresh, kdr_read, kdr_step, kdr_turn};
 
-// Ten numbers to the front of the lent fields.
-fn store(
-    fields: &mut [u64],
-    instruction: u32,
-    shape: u64,
-    a: u64,
-    b: u64,
-    first: Place,
-    second: Place,
-    count: u64,
-    url: u64,
-)
-    requires { 10 ≤ length fields.old }
-    ensures { fields.new ≡ field_list instruction shape a b first second count url ++ drop 10 fields.old }
+// A message's fields as ten numbers; those that its shape does not use are 0.
+fn numbers(i: u32, places: Places) -> [u64; 10]
+    ensures { result ≡ fields_of i places }
 {
-    fields[0] = instruction as u64;
-    fields[1] = shape;
-    fields[2] = a;
-    fields[3] = b;
-    fields[4] = first.start as u64;
-    fields[5] = first.len as u64;
-    fields[6] = second.start as u64;
-    fields[7] = second.len as u64;
-    fields[8] = count;
-    fields[9] = url;
-}
-
-fn store_item(fields: &mut [u64], instruction: u32, class: u8, kind: u8, url: UrlPlace, part: Place)
-    requires { 10 ≤ length fields.old }
-    ensures { fields.new ≡ fields_of instruction (Places.Item class kind url part) ++ drop 10 fields.old }
-{
-    let none = Place { start: 0, len: 0 };
-    let a = class as u64;
-    let b = kind as u64;
-    match url {
-        UrlPlace::Absent => store(fields, instruction, 6, a, b, part, none, 0, 0),
-        UrlPlace::At(u) => store(fields, instruction, 6, a, b, part, u, 0, 1),
-    }
-}
-
-fn store_places(out: &mut [u64], i: u32, places: Places)
-    requires { 10 ≤ length out.old }
-    ensures { out.new ≡ fields_of i places ++ drop 10 out.old }
-{
-    let none = Place { start: 0, len: 0 };
+    let i = u64::from(i);
     match places {
-        Places::Empty => store(out, i, 0, 0, 0, none, none, 0, 0),
+        Places::Empty => [i, 0, 0, 0, 0, 0, 0, 0, 0, 0],
         Places::Session {
             major,
             minor,
-            user,
-            database,
-        } => store(out, i, 1, major as u64, minor as u64, user, database, 0, 0),
-        Places::Text(t) => store(out, i, 2, 0, 0, t, none, 0, 0),
-        Places::Statement { format, text } => store(out, i, 3, format as u64, 0, text, none, 0, 0),
-        Places::Coded { code, text } => store(out, i, 4, code as u64, 0, text, none, 0, 0),
-        Places::Options { pairs, count } => store(out, i, 5, 0, 0, pairs, none, count as u64, 0),
+            user: u,
+            database: d,
+        } => [
+            i,
+            1,
+            u64::from(major),
+            u64::from(minor),
+            u.start as u64,
+            u.len as u64,
+            d.start as u64,
+            d.len as u64,
+            0,
+            0,
+        ],
+        Places::Text(t) => [i, 2, 0, 0, t.start as u64, t.len as u64, 0, 0, 0, 0],
+        Places::Statement { format, text: t } => {
+            let format = u64::from(format);
+            [i, 3, format, 0, t.start as u64, t.len as u64, 0, 0, 0, 0]
+        }
+        Places::Coded { code, text: t } => {
+            let code = u64::from(code);
+            [i, 4, code, 0, t.start as u64, t.len as u64, 0, 0, 0, 0]
+        }
+        Places::Options { pairs: p, count } => {
+            let count = count as u64;
+            [i, 5, 0, 0, p.start as u64, p.len as u64, 0, 0, count, 0]
+        }
         Places::Item {
             class,
             kind,
             url,
-            part,
-        } => store_item(out, i, class, kind, url, part),
+            part: p,
+        } => {
+            let (u, there) = match url {
+                None => (Place { start: 0, len: 0 }, 0),
+                Some(u) => (u, 1),
+            };
+            [
+                i,
+                6,
+                u64::from(class),
+                u64::from(kind),
+                p.start as u64,
+                p.len as u64,
+                u.start as u64,
+                u.len as u64,
+                0,
+                there,
+            ]
+        }
     }
+}
+
+// They go to the front of the lent fields.
+fn store_places(out: &mut [u64], i: u32, places: Places)
+    requires { 10 ≤ length out.old }
+    ensures { out.new ≡ fields_of i places ++ drop 10 out.old }
+{
+    out[..10].copy_from_slice(&numbers(i, places));
 }
 
 // The option number k among the pairs from start on: 1, and its id and its value's place; 0 where
@@ -88,18 +93,15 @@ fn store_places(out: &mut [u64], i: u32, places: Places)
 pub fn kdr_option(bytes: &[u8], start: usize, len: usize, k: usize, fields: &mut [u64]) -> u64
     ensures { TellsOption (option_at k start (take len (drop start bytes.now))) fields.old result fields.new }
 {
-    match sedna_read::option_at(bytes, Place { start, len }, k) {
-        OptionPlace::Missing => 0,
-        OptionPlace::At { id, value } => {
-            if fields.len() < 3 {
-                return refusal_code(Refusal::NoRoom);
-            }
-            fields[0] = id as u64;
-            fields[1] = value.start as u64;
-            fields[2] = value.len as u64;
-            1
-        }
+    let Some(OptionPlace { id, value }) = sedna_read::option_at(bytes, Place { start, len }, k)
+    else {
+        return 0;
+    };
+    if fields.len() < 3 {
+        return refusal_code(Refusal::NoRoom);
     }
+    fields[..3].copy_from_slice(&[u64::from(id), value.start as u64, value.len as u64]);
+    1
 }
 
 pub fn kdr_write_empty(out: &mut [u8], instruction: u32) -> u64

@@ -4,21 +4,12 @@ ghost use Rattle.sedna_c.specs.Codes.{sender_of};
 
 use sedna::Side;
 
-// Who sent a message: side 1 is the client, 2 the server.
-#[derive(Clone, Copy)]
-pub enum Sender {
-    Is(Side),
-    Nobody,
-}
-
-pub fn sender_of(side: u8) -> Sender
+pub fn sender_of(side: u8) -> Option<Side>
     ensures { result ≡ sender_of side }
 {
-    if side == 1 {
-        return Sender::Is(Side::Client);
+    match side {
+        1 => Some(Side::Client),
+        2 => Some(Side::Server),
+        _ => None,
     }
-    if side == 2 {
-        return Sender::Is(Side::Server);
-    }
-    Sender::Nobody
 }

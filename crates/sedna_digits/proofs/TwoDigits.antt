@@ -5,7 +5,7 @@ use mathlib.Core.Bool.{Bool, true, false}
 use Prim.Native.Nat.{ℕ, zero, suc, ◌+◌, ◌-◌, ◌*◌, ◌/◌, ◌%◌, ◌≤◌, ◌<◌}
 use native.Mathlib.Omega.{arith}
 use lib.Dec.{leb}
-use lib.ListN.{length, drop, get_or, get_or-eq_default}
+use lib.ListN.{drop, get_or}
 use lib.Seq.{get_or-drop}
 use borrow.Author.Tests.{leb-true, le-leb}
 use Rattle.wire.specs.Bytes.{if}
@@ -43,11 +43,6 @@ module _ (s : List ℕ) (at : ℕ) where
       by : (t : Bool) → if {A = ℕ} t 100 100 ≡ 100
       by true = refl
       by false = refl
-
-  pub two_past : length s < at + 2 → two_digits_at s at ≡ 100
-  two_past h =
-      let k : length s ≤ at + 1 = omega arith in
-      two-second (rw (get_or-eq_default s 0 k))
 
 pub two_at-drop : (s : List ℕ) (p q : ℕ) → two_digits_at s (p + q) ≡ two_digits_at (drop p s) q
 unfolding two_digits_at

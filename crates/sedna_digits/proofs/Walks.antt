@@ -7,27 +7,23 @@ use native.Mathlib.Numerals.{add-one}
 use native.Mathlib.Omega.{arith}
 use lib.ListN.{length, drop, get_or, drop_of_length-le}
 use lib.Seq.{drop-cons}
-use borrow.Author.Tests.{le-leb, lt-leb}
+use mathlib.Core.Bool.{false}
+use borrow.Author.Tests.{le-leb}
 use Rattle.sedna_digits.specs.declared.Run.{Run}
 use Rattle.sedna_digits.specs.Numbers.{number}
-use Rattle.sedna_digits.specs.Digits.{run, kept, digits_at}
+use Rattle.sedna_digits.specs.Digits.{is_digit, run, kept, digits_at}
 use Rattle.sedna_digits.specs.inner.Growing.{grown}
 use Rattle.sedna_digits.proofs.Kept.{grown-kept}
 
 module _ (s : List ℕ) (i : ℕ) where
+  -- by the byte at i, which is a digit, or none
   run_here : i < length s → 48 ≤ get_or s i 0 → get_or s i 0 ≤ 57 → run (drop i s) ≡ (get_or s i 0 - 48) ∷ run (drop (i + 1) s)
   unfolding run
   run_here h a b = rw (add-one, drop-cons s i 0 h) (simp (le-leb _ _ a, le-leb _ _ b))
 
-  run_low : i < length s → get_or s i 0 < 48 → run (drop i s) ≡ []
+  run_none : i < length s → is_digit (get_or s i 0) ≡ false → run (drop i s) ≡ []
   unfolding run
-  run_low h a = rw (drop-cons s i 0 h) (simp (lt-leb _ _ a))
-
-  run_high : i < length s → 57 < get_or s i 0 → run (drop i s) ≡ []
-  unfolding run
-  run_high h a =
-      let b : 48 ≤ get_or s i 0 = omega arith in
-      rw (drop-cons s i 0 h) (simp (le-leb _ _ b, lt-leb _ _ a))
+  run_none h e = rw (drop-cons s i 0 h, e)
 
   run_end : length s ≤ i → run (drop i s) ≡ []
   unfolding run
@@ -78,11 +74,8 @@ module _ {s : List ℕ} {at i k : ℕ} (w : Walked s at i k) where
   walk_stop : run (drop i s) ≡ [] → record { end = i; number = k } ≡ digits_at s at
   walk_stop e = sym (w.goes ∙ ap (to w.counted i) e ∙ to_end w.counted i ∙ ap (λ (n : ℕ). record { end = i; number = n }) (sym w.keeps))
 
-  pub walk_low : i < length s → get_or s i 0 < 48 → record { end = i; number = k } ≡ digits_at s at
-  walk_low h a = walk_stop (run_low s i h a)
-
-  pub walk_high : i < length s → 57 < get_or s i 0 → record { end = i; number = k } ≡ digits_at s at
-  walk_high h a = walk_stop (run_high s i h a)
+  pub walk_none : i < length s → is_digit (get_or s i 0) ≡ false → record { end = i; number = k } ≡ digits_at s at
+  walk_none h e = walk_stop (run_none s i h e)
 
   pub walk_end : length s ≤ i → record { end = i; number = k } ≡ digits_at s at
   walk_end h = walk_stop (run_end s i h)

@@ -1,7 +1,7 @@
 -- Runs of digits as they are read.
 use mathlib.Core.{Bool.Bool, List.List, List.[], List.◌∷◌}
-use Rattle.std.specs.Prelude.{ℕ, ◌+◌, ◌-◌, ◌*◌, ◌%◌}
-use lib.{Dec.eqb, Dec.leb, ListN.length, ListN.drop, ListN.get_or}
+use Rattle.std.specs.Prelude.{ℕ, ◌+◌, ◌-◌, ◌*◌, ◌%◌, Option, Some, None}
+use lib.{Dec.eqb, Dec.leb, Dec.ltb, ListN.length, ListN.drop, ListN.get_or}
 use Rattle.wire.specs.Bytes.{if, between}
 use Rattle.sedna_digits.specs.{declared.Run.Run, Numbers.number}
 
@@ -24,6 +24,10 @@ digits_at s at = record { end = at + length (run (drop at s)); number = kept (nu
 -- the number of the two digits at `at`, 100 where one is none
 unfoldable pub two_digits_at : List ℕ → ℕ → ℕ
 two_digits_at s at = if (is_digit (get_or s at 0)) (if (is_digit (get_or s (at + 1) 0)) ((get_or s at 0 - 48) * 10 + (get_or s (at + 1) 0 - 48)) 100) 100
+
+-- a number, where it is one: a limit and what is above it stands for none
+abbrev pub some_below : ℕ → ℕ → Option ℕ
+some_below limit n = if (ltb n limit) (Some n) None
 
 -- behind the sign at `at`, + or -, if one stands there
 unfoldable pub behind_sign : List ℕ → ℕ → ℕ

@@ -1,14 +1,12 @@
 -- The days of years and months: what counting them gives.
 use mathlib.Core.Bool.{Bool, true, false}
 use mathlib.Core.Path.{◌≡◌, refl}
-use mathlib.Core.List.{[], ◌∷◌}
-use mathlib.Core.Logic.{inl, inr}
+use mathlib.Core.List.{◌∷◌}
 use Prim.Native.Nat.{ℕ, zero, suc, ◌+◌, ◌-◌, ◌*◌, ◌/◌, ◌%◌, ◌≤◌, ◌<◌}
 use native.Mathlib.Omega.{arith}
 use lib.Dec.{eqb, leb, ltb}
 use lib.ListN.{get_or-eq_default}
-use types.Run.{OneOf}
-use borrow.Author.Tests.{eqb-true, eqb-false, eq-eqb, ltb-true, ltb-false, leb-true, ne_eqb}
+use borrow.Author.Tests.{eqb-true, eqb-false, eq-eqb, ltb-true, ltb-false, leb-true}
 use Rattle.wire.specs.Bytes.{if}
 use Rattle.wire.proofs.Below.{up_to, below}
 use Rattle.sedna_instant.specs.Calendar.{year_length, years_to, leap, month_lengths, month_length, months_to}
@@ -72,19 +70,6 @@ years_by_division (suc y) = omega (arith, years_by_division y, next y)
 pub no-month : (year m : ℕ) → 12 < m → month_length year m ≡ 0
 no-month year m h = get_or-eq_default (0 ∷ month_lengths year) 0 h
 
--- a month that is neither February nor one of 30 days has 31
-pub long-month : (year m : ℕ) → m ≤ 12 → (m ≡ 0 → ⊥) → (m ≡ 2 → ⊥) → (OneOf (4 ∷ 6 ∷ 9 ∷ 11 ∷ []) m → ⊥) → month_length year m ≡ 31
-long-month year m h z f o =
-    eqb-true _ _
-    (rw
-    (ne_eqb m 0 z, ne_eqb m 2 f, ne_eqb m 4 (λ e. o (inl e)), ne_eqb m 6 (λ e. o (inr (inl e))), ne_eqb m 9 (λ e. o (inr (inr (inl e)))), ne_eqb m 11 (λ e. o (inr (inr (inr e)))))
-    at (below other 13 m refl (omega arith)))
-  where
-    other : ℕ → Bool
-    other k =
-        if (eqb k 0) true
-        (if (eqb k 2) true (if (eqb k 4) true (if (eqb k 6) true (if (eqb k 9) true (if (eqb k 11) true (eqb (month_length year k) 31))))))
-
 -- only a month has days, and at most 31
 pub has_days : (year m : ℕ) → 1 ≤ month_length year m → IsMonth m
 has_days year zero h = absurd (omega arith)
@@ -102,22 +87,22 @@ days_31 year m h = leb-true _ _ (below (λ (k : ℕ). leb (month_length year k) 
     by false e = rw e
 
 -- up to February's first day every year is alike, and from March on a leap year has had a day more
-pub no-leap-day : (year m : ℕ) → m ≤ 1 → months_to year m ≡ months_to 1 m
+pub no_leap_day : (year m : ℕ) → m ≤ 1 → months_to year m ≡ months_to 1 m
 unfolding months_to
-no-leap-day year zero h = refl
-no-leap-day year (suc zero) h = refl
-no-leap-day year (suc (suc m)) h = absurd (omega arith)
+no_leap_day year zero h = refl
+no_leap_day year (suc zero) h = refl
+no_leap_day year (suc (suc m)) h = absurd (omega arith)
 
 either : (t : Bool) → 31 + if t 29 28 ≡ 59 + if t 1 0
 either true = refl
 either false = refl
 
-pub leap-day : (year m : ℕ) → 2 ≤ m → months_to year m ≡ months_to 1 m + if (leap year) 1 0
+pub leap_day : (year m : ℕ) → 2 ≤ m → months_to year m ≡ months_to 1 m + if (leap year) 1 0
 unfolding months_to
-leap-day year zero h = absurd (omega arith)
-leap-day year (suc zero) h = absurd (omega arith)
-leap-day year (suc (suc zero)) h = either (leap year)
-leap-day year (suc (suc (suc m))) h = omega (arith, leap-day year (suc (suc m)) (omega arith))
+leap_day year zero h = absurd (omega arith)
+leap_day year (suc zero) h = absurd (omega arith)
+leap_day year (suc (suc zero)) h = either (leap year)
+leap_day year (suc (suc (suc m))) h = omega (arith, leap_day year (suc (suc m)) (omega arith))
 
 ahead_334 : (m : ℕ) → m ≤ 11 → months_to 1 m ≤ 334
 unfolding months_to
@@ -127,6 +112,6 @@ pub ahead_335 : (year m : ℕ) → m ≤ 11 → months_to year m ≤ 335
 ahead_335 year m h = by (ltb m 2) refl (leap year) refl
   where
     by : (t : Bool) → ltb m 2 ≡ t → (l : Bool) → leap year ≡ l → months_to year m ≤ 335
-    by true e l f = omega (arith, ltb-true m 2 e, ahead_334 m h, no-leap-day year m (omega (arith, ltb-true m 2 e)))
-    by false e true f = omega (arith, ahead_334 m h, rw f at (leap-day year m (ltb-false m 2 e)))
-    by false e false f = omega (arith, ahead_334 m h, rw f at (leap-day year m (ltb-false m 2 e)))
+    by true e l f = omega (arith, ltb-true m 2 e, ahead_334 m h, no_leap_day year m (omega (arith, ltb-true m 2 e)))
+    by false e true f = omega (arith, ahead_334 m h, rw f at (leap_day year m (ltb-false m 2 e)))
+    by false e false f = omega (arith, ahead_334 m h, rw f at (leap_day year m (ltb-false m 2 e)))

@@ -17,7 +17,7 @@ filled_up n k h l =
     rw (← whole) (mul-lt-mul_of_pos_right l (one-le-pow (9 - k) 10 (omega arith)))
 
 -- so are the digits that a run has counted
-pub run-filled : (s : List ℕ) (at : ℕ) (r : Run) → r ≡ digits_at s at → r.end - at ≤ 9 → r.number < 10 ^ (r.end - at)
-run-filled s at r e h =
+pub run_filled : (s : List ℕ) (at : ℕ) (r : Run) → r ≡ digits_at s at → r.end - at ≤ 9 → r.number < 10 ^ (r.end - at)
+run_filled s at r e h =
     let n : r.end - at ≡ length (run (drop at s)) = omega (arith, ap (λ (x : Run). x.end) e) in
     rw (n, ap (λ (x : Run). x.number) e) (run_below (drop at s) (omega arith))

@@ -1,5 +1,4 @@
-pub mod Comparing
 pub mod Fractions
 pub mod Days
-pub mod Readings
 pub mod Seconds
+pub mod Readings

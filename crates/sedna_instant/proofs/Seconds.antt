@@ -12,11 +12,9 @@ use borrow.Author.Tests.{ltb-true, ltb-false}
 use Rattle.wire.specs.Bytes.{if}
 use Rattle.wire.proofs.Branches.{both, neither}
 use Rattle.sedna_instant.specs.declared.fields.Clock.{Clock}
-use Rattle.sedna_instant.specs.declared.fields.Fraction.{Fraction}
-use Rattle.sedna_instant.specs.declared.fields.Year.{Year}
 use Rattle.sedna_instant.specs.Calendar.{month_length, days_before}
-use Rattle.sedna_instant.specs.DateTimes.{is_formed, seconds_of}
-use Rattle.sedna_instant.specs.inner.Bounds.{SecondsFit, InCalendar}
+use Rattle.sedna_instant.specs.DateTimes.{YearAt, FractionAt, is_formed, seconds_of}
+use Rattle.sedna_instant.specs.inner.Bounds.{IsMonth, SecondsFit, InCalendar}
 use Rattle.sedna_instant.proofs.Days.{has_days, days_31, ahead_335, years_by_division}
 
 -- ---- what has the form of a date and time has what the day count and the seconds need
@@ -28,9 +26,16 @@ hour_24 hour rest e = by (ltb hour 24) refl e
     by true l g = omega (arith, ltb-true hour 24 l)
     by false l g = ltb-false 24 hour (neither (ltb 24 hour) rest g).0
 
-pub formed_fit : (y : Year) (c : Clock) (f : Fraction) (shift : ℕ) → is_formed y c f ≡ true → 1 ≤ y.number → y.number ≤ 9999 → shift ≤ 136800
-    → SecondsFit y.number c shift
-formed_fit y c f shift e year_1 year_9999 near =
+pub record DayAndTime (c : Clock) : Type 0 where
+  pub month : IsMonth c.month
+  pub day_1 : 1 ≤ c.day
+  pub day_31 : c.day ≤ 31
+  pub hour_24 : c.hour ≤ 24
+  pub minute_59 : c.minute ≤ 59
+  pub second_59 : c.second ≤ 59
+
+pub formed_parts : (y : YearAt) (c : Clock) (f : FractionAt) → is_formed y c f ≡ true → DayAndTime c
+formed_parts y c f e =
     let days = month_length y.number c.month in
     let day = neither (ltb c.day 1) _ ((both f.formed _).0 ((both y.formed _).0 e).1).1 in
     let last = neither (ltb days c.day) _ day.1 in
@@ -40,16 +45,23 @@ formed_fit y c f shift e year_1 year_9999 near =
     let day_last : c.day ≤ days = ltb-false days c.day last.0 in
     let month = has_days y.number c.month (omega arith) in
     record {
-      date = record {
-        year_1 = year_1;
-        year_9999 = year_9999;
-        a_month = month;
-        day_1 = day_1;
-        day_31 = omega (arith, days_31 y.number c.month month.month_12);
-      };
+      month = month;
+      day_1 = day_1;
+      day_31 = omega (arith, days_31 y.number c.month month.month_12);
       hour_24 = hour_24 c.hour _ second.1;
       minute_59 = ltb-false 59 c.minute minute.0;
       second_59 = ltb-false 59 c.second second.0;
+    }
+
+pub formed_fit : (y : YearAt) (c : Clock) (f : FractionAt) (shift : ℕ) → is_formed y c f ≡ true → 1 ≤ y.number → y.number ≤ 9999 → shift ≤ 136800
+    → SecondsFit y.number c shift
+formed_fit y c f shift e year_1 year_9999 near =
+    let p = formed_parts y c f e in
+    record {
+      date = record { year_1 = year_1; year_9999 = year_9999; a_month = p.month; day_1 = p.day_1; day_31 = p.day_31 };
+      hour_24 = p.hour_24;
+      minute_59 = p.minute_59;
+      second_59 = p.second_59;
       shift_136800 = near;
     }
 

@@ -7,36 +7,24 @@ ghost use Rattle.sedna_instant.specs.inner.Bounds.{IsMonth, InCalendar};
 fn leap_year(year: u64) -> bool
     ensures { result ≡ leap year }
 {
-    if year % 4 != 0 {
-        return false;
-    }
-    if year % 100 != 0 {
-        return true;
-    }
-    year % 400 == 0
+    year % 4 == 0 && (year % 100 != 0 || year % 400 == 0)
 }
 
 // How many days the month has in that year; none where there is no such month.
 pub fn month_length(year: u64, month: u64) -> u64
     ensures { result ≡ month_length year month }
 {
-    if month == 2 {
-        if leap_year(year) {
-            return 29;
-        }
-        return 28;
-    }
-    if 12 < month {
-        return 0;
-    }
     match month {
-        0 => 0,
+        2 if leap_year(year) => 29,
+        2 => 28,
         4 | 6 | 9 | 11 => 30,
-        _ => 31,
+        1..=12 => 31,
+        _ => 0,
     }
 }
 
 // How many days of a year that is no leap year, as 1 is none, lie before the month.
+#[tactic(auto, unfolding(crate::specs::Calendar::months_to))]
 fn days_ahead(month: u64) -> u64
     requires { IsMonth month }
     ensures { result ≡ months_to 1 (month - 1) }
@@ -58,21 +46,21 @@ fn days_ahead(month: u64) -> u64
 }
 
 // How many days of the year lie before the month.
+#[tactic(auto, using(crate::proofs::Days::leap_day, crate::proofs::Days::no_leap_day, crate::proofs::Days::ahead_335))]
 fn months_before(year: u64, month: u64) -> u64
     requires { IsMonth month }
     ensures { result ≡ months_to year (month - 1) }
 {
     let days = days_ahead(month);
-    if month <= 2 {
-        return days;
+    if 2 < month && leap_year(year) {
+        days + 1
+    } else {
+        days
     }
-    if leap_year(year) {
-        return days + 1;
-    }
-    days
 }
 
 // How many days lie between 0001-01-01 and the date.
+#[tactic(auto, using(crate::proofs::Days::ahead_335, crate::proofs::Days::years_by_division), unfolding(crate::specs::Calendar::days_before))]
 pub fn day_count(year: u64, month: u64, day: u64) -> u64
     requires { InCalendar year month day }
     ensures { result ≡ days_before year month day }

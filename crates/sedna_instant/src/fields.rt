@@ -1,48 +1,40 @@
 // The fields of a dateTime by their places: the year, month to second, the fraction and the zone.
-ghost use Rattle.std.specs.Prelude.{◌≡◌, ◌+◌, ◌≤◌, length};
-ghost use Rattle.sedna_instant.specs.DateTimes.{year_from, year_of, marks_at, clock_at, fraction_at, minutes_of, offset_at, shift_by, zone_at};
-ghost use Rattle.sedna_instant.specs.inner.Bounds.{GivesWithin, FractionFits, ShiftBounded};
+ghost use Rattle.std.specs.Prelude.{◌≡◌};
+ghost use Rattle.sedna_instant.specs.DateTimes.{year_of, formed_year, marked_there, clock_there, fraction_at, formed_fraction, offset_at, zone_at};
+ghost use Rattle.sedna_digits.specs.Digits.{some_below};
+ghost use Rattle.sedna_instant.specs.inner.Bounds.{GivesWithin, FoundFits, ShiftBounded};
 
 use sedna_digits::{byte_at, digits, two_digits};
+use wire::Refusal;
 
 // A year as it is written: a minus sign or none, and four digits, or more of which the first is not 0.
 #[derive(Clone, Copy)]
 pub struct Year {
     pub minus: bool,
-    pub formed: bool,
     pub number: u64,
     pub end: usize,
 }
 
-// Its digits start at `at`.
-fn year_from(s: &[u8], minus: bool, at: usize) -> Year
-    ensures { result ≡ year_from s.now minus at }
+#[tactic(auto, unfolding(crate::specs::DateTimes::year_of))]
+pub fn year_of(s: &[u8]) -> Option<Year>
+    ensures { result ≡ formed_year (year_of s.now) }
 {
+    let minus = s.starts_with(b"-");
+    let at = usize::from(minus);
     let run = digits(s, at);
     let count = run.end - at;
-    let formed = if byte_at(s, at) == b'0' {
-        count == 4
+    if count == 4 || 4 < count && byte_at(s, at) != b'0' {
+        Some(Year {
+            minus,
+            number: run.number,
+            end: run.end,
+        })
     } else {
-        4 <= count
-    };
-    Year {
-        minus,
-        formed,
-        number: run.number,
-        end: run.end,
+        None
     }
 }
 
-pub fn year_of(s: &[u8]) -> Year
-    ensures { result ≡ year_of s.now }
-{
-    if byte_at(s, 0) == b'-' {
-        return year_from(s, true, 1);
-    }
-    year_from(s, false, 0)
-}
-
-// The numbers behind the year, 100 where one has not two digits.
+// The numbers behind the year, of two digits each.
 #[derive(Clone, Copy)]
 pub struct Clock {
     pub month: u64,
@@ -52,143 +44,97 @@ pub struct Clock {
     pub second: u64,
 }
 
-// The five bytes between those numbers.
-pub fn marks(s: &[u8], at: usize) -> bool
-    requires { at + 15 ≤ length s.now }
-    ensures { result ≡ marks_at s.now at }
+// A mark at `at`, and a number of two digits behind it.
+fn marked(s: &[u8], at: usize, mark: u8) -> Option<u64>
+    ensures { result ≡ marked_there s.now at mark }
 {
-    if s[at] != b'-' {
-        return false;
+    match s.get(at..)? {
+        [b, _, _, ..] if *b == mark => two_digits(s, at + 1),
+        _ => None,
     }
-    if s[at + 3] != b'-' {
-        return false;
-    }
-    if s[at + 6] != b'T' {
-        return false;
-    }
-    if s[at + 9] != b':' {
-        return false;
-    }
-    s[at + 12] == b':'
 }
 
-pub fn clock_at(s: &[u8], at: usize) -> Clock
-    requires { at + 15 ≤ length s.now }
-    ensures { result ≡ clock_at s.now at }
+// -MM-DDThh:mm:ss from `at` on.
+#[tactic(auto, unfolding(crate::specs::DateTimes::marks_at))]
+pub fn clock_at(s: &[u8], at: usize) -> Option<Clock>
+    ensures { result ≡ clock_there s.now at }
 {
-    Clock {
-        month: two_digits(s, at + 1),
-        day: two_digits(s, at + 4),
-        hour: two_digits(s, at + 7),
-        minute: two_digits(s, at + 10),
-        second: two_digits(s, at + 13),
-    }
+    Some(Clock {
+        month: marked(s, at, b'-')?,
+        day: marked(s, at + 3, b'-')?,
+        hour: marked(s, at + 6, b'T')?,
+        minute: marked(s, at + 9, b':')?,
+        second: marked(s, at + 12, b':')?,
+    })
 }
 
 // A point and digits, or nothing at all.
 #[derive(Clone, Copy)]
 pub struct Fraction {
-    pub formed: bool,
     pub count: usize,
     pub number: u64,
     pub end: usize,
 }
 
-pub fn fraction_at(s: &[u8], at: usize) -> Fraction
-    ensures { GivesWithin FractionFits (fraction_at s.now at) result }
+#[tactic(auto, using(crate::proofs::Fractions::run_filled), unfolding(crate::specs::DateTimes::fraction_at))]
+pub fn fraction_at(s: &[u8], at: usize) -> Option<Fraction>
+    ensures { GivesWithin FoundFits (formed_fraction (fraction_at s.now at)) result }
 {
-    if at < s.len() {
-        if s[at] == b'.' {
-            let run = digits(s, at + 1);
-            let count = run.end - (at + 1);
-            return Fraction {
-                formed: 0 < count,
-                count,
-                number: run.number,
-                end: run.end,
-            };
+    if s.get(at) != Some(&b'.') {
+        return Some(Fraction {
+            count: 0,
+            number: 0,
+            end: at,
+        });
+    }
+    let run = digits(s, at + 1);
+    let count = run.end - (at + 1);
+    if count == 0 {
+        return None;
+    }
+    Some(Fraction {
+        count,
+        number: run.number,
+        end: run.end,
+    })
+}
+
+// hh:mm at `at`, with which the text ends, in minutes, up to 14:00.
+#[tactic(auto, unfolding(crate::specs::DateTimes::offset_at))]
+fn offset(s: &[u8], at: usize) -> Option<u64>
+    ensures { result ≡ some_below 841 (offset_at s.now at) }
+{
+    match s.get(at..)? {
+        [_, _, b':', _, _] => {
+            let hours = two_digits(s, at)?;
+            let minutes = two_digits(s, at + 3)?;
+            let all = hours * 60 + minutes;
+            if minutes <= 59 && all <= 840 {
+                Some(all)
+            } else {
+                None
+            }
         }
-    }
-    Fraction {
-        formed: true,
-        count: 0,
-        number: 0,
-        end: at,
+        _ => None,
     }
 }
 
-// What a zone adds to local time, in seconds on top of a day, so that it is never negative.
-#[derive(Clone, Copy)]
-pub enum ZoneFound {
-    Malformed,
-    Missing,
-    Shift(u64),
-}
-
-// Hours and minutes as minutes; 841 where they are none, or beyond 14:00.
-fn minutes_of(hours: u64, minutes: u64) -> u64
-    ensures { result ≡ minutes_of hours minutes }
-{
-    if 59 < minutes {
-        return 841;
-    }
-    if 14 < hours {
-        return 841;
-    }
-    let all = hours * 60 + minutes;
-    if 840 < all {
-        return 841;
-    }
-    all
-}
-
-// hh:mm at `at`, with which the text ends, in minutes; else 841.
-fn offset(s: &[u8], at: usize) -> u64
-    ensures { result ≡ offset_at s.now at }
-{
-    let n = s.len();
-    if n < 5 {
-        return 841;
-    }
-    if n - 5 != at {
-        return 841;
-    }
-    if s[at + 2] != b':' {
-        return 841;
-    }
-    minutes_of(two_digits(s, at), two_digits(s, at + 3))
-}
-
-// By the sign and the minutes behind it.
-fn shift_by(sign: u8, minutes: u64) -> ZoneFound
-    ensures { GivesWithin ShiftBounded (shift_by sign minutes) result }
-{
-    if 840 < minutes {
-        return ZoneFound::Malformed;
-    }
-    if sign == b'+' {
-        return ZoneFound::Shift(86400 - minutes * 60);
-    }
-    if sign == b'-' {
-        return ZoneFound::Shift(86400 + minutes * 60);
-    }
-    ZoneFound::Malformed
-}
-
-// Z, or a sign and an offset, up to the text's end.
-pub fn zone_at(s: &[u8], at: usize) -> ZoneFound
+// Z, or a sign and an offset, up to the text's end. What is added to local time, in seconds on top of a day, so that it
+// is never negative; 16 where there is no zone.
+#[tactic(auto, unfolding(crate::specs::DateTimes::zone_at))]
+pub fn zone_at(s: &[u8], at: usize) -> Result<u64, Refusal>
     ensures { GivesWithin ShiftBounded (zone_at s.now at) result }
 {
-    let n = s.len();
-    if n <= at {
-        return ZoneFound::Missing;
-    }
-    let b = s[at];
-    if b == b'Z' {
-        if at + 1 == n {
-            return ZoneFound::Shift(86400);
+    match s.get(at..) {
+        None | Some([]) => Err(Refusal::OutOfRange),
+        Some(b"Z") => Ok(86400),
+        Some([sign, ..]) => {
+            let minutes = offset(s, at + 1).ok_or(Refusal::NotOfForm)?;
+            match sign {
+                b'+' => Ok(86400 - minutes * 60),
+                b'-' => Ok(86400 + minutes * 60),
+                _ => Err(Refusal::NotOfForm),
+            }
         }
-        return ZoneFound::Malformed;
     }
-    shift_by(b, offset(s, at + 1))
 }

@@ -6,6 +6,7 @@
 ghost use Rattle.std.specs.Prelude.{◌≡◌};
 ghost use Rattle.sedna_instant.specs.Orders.{ordered};
 
+use std::cmp::Ordering;
 use wire::Refusal;
 
 mod calendar;
@@ -13,41 +14,15 @@ mod fields;
 pub mod read;
 
 // Seconds from 1970-01-01T00:00:00Z, and nanoseconds on top, before 1970 too.
-#[derive(Clone, Copy)]
+#[derive(Clone, Copy, PartialEq, Eq, PartialOrd, Ord)]
 pub struct Instant {
     pub seconds: i64,
     pub nanos: u32,
 }
 
-// An instant, or the refusal.
-#[derive(Clone, Copy)]
-pub enum Dated {
-    At(Instant),
-    Refused(Refusal),
-}
-
-#[derive(Clone, Copy)]
-pub enum Order {
-    Earlier,
-    Same,
-    Later,
-}
-
 // How the first instant lies to the second: by seconds, then by nanoseconds, and by nothing else.
-pub fn compare(a: Instant, b: Instant) -> Order
+pub fn compare(a: Instant, b: Instant) -> Ordering
     ensures { result ≡ ordered a b }
 {
-    if a.seconds == b.seconds {
-        if a.nanos == b.nanos {
-            return Order::Same;
-        }
-        if a.nanos < b.nanos {
-            return Order::Earlier;
-        }
-        return Order::Later;
-    }
-    if a.seconds < b.seconds {
-        return Order::Earlier;
-    }
-    Order::Later
+    a.cmp(&b)
 }

@@ -1,4 +1,5 @@
 -- Reading refuses exactly what is due: with that number, and at that moment.
+use Rattle.std.specs.Prelude.{Option, Some, None}
 use mathlib.Core.Bool.{Bool, true, false}
 use mathlib.Core.List.{List}
 use mathlib.Core.Logic.{◌↔◌}
@@ -12,8 +13,6 @@ use Rattle.wire.specs.Fields.{Got}
 use Rattle.wire.specs.declared.Refusal.{Refusal}
 use Rattle.wire.specs.declared.Refusal.TheVariants.{MoreBytes, UnknownInstruction, OtherSide, BodyTooLong}
 use Rattle.sedna.specs.declared.Entry.{Entry}
-use Rattle.sedna.specs.declared.Found.{Found}
-use Rattle.sedna.specs.declared.Found.TheVariants.{Known, Unknown}
 use Rattle.sedna.specs.declared.Shape.{Shape}
 use Rattle.sedna.specs.declared.Side.{Side}
 use Rattle.sedna.specs.Kinds.{same_side}
@@ -28,15 +27,15 @@ use Rattle.sedna_laws.proofs.InBody.{in_body_exact}
 use Rattle.sedna_laws.proofs.Table.{find_listed, listed_find}
 
 -- the table lacks an instruction exactly where none is found
-pub lacking : (k : ℕ) → find_of k ≡ Unknown → (e : Entry) → InTable e → ¬ (e.0 ≡ k)
-lacking k found e listed p = apart (let z : Unknown ≡ Known e.1 e.2 = sym found ∙ ap find_of (sym p) ∙ find_listed e listed in cc)
+pub lacking : (k : ℕ) → find_of k ≡ None → (e : Entry) → InTable e → ¬ (e.0 ≡ k)
+lacking k found e listed p = apart (let z : None ≡ Some (e.1, e.2) = sym found ∙ ap find_of (sym p) ∙ find_listed e listed in cc)
 
-pub lacks : (k : ℕ) → ((e : Entry) → InTable e → ¬ (e.0 ≡ k)) → find_of k ≡ Unknown
+pub lacks : (k : ℕ) → ((e : Entry) → InTable e → ¬ (e.0 ≡ k)) → find_of k ≡ None
 lacks k none = by (find_of k) refl
   where
-    by : (f : Found) → find_of k ≡ f → f ≡ Unknown
-    by Unknown q = refl
-    by (Known a b) q = absurd (none (k, a, b) (listed_find k a b q) refl)
+    by : (f : Option (Side × Shape)) → find_of k ≡ f → f ≡ None
+    by None q = refl
+    by (Some (a, b)) q = absurd (none (k, a, b) (listed_find k a b q) refl)
 
 other_side : (a b : Side) → ¬ (a ≡ b) → same_side a b ≡ false
 other_side a b differ = by (same_side a b) refl
@@ -52,9 +51,9 @@ module _ (side : Side) (s : List ℕ) (r : Refusal) (h : IsBytes s) where
   is-due : {q : Refusal} → Answer.refused q ≡ Answer.refused r → Due side s q → Due side s r
   is-due {q} e = let z : q ≡ r = cc in subst (Due side s) z
 
-  head_due : (f : Found) → find_of (int_at s 0) ≡ f → 8 ≤ length s → (q : Refusal) → head_of side (int_at s 4) f ≡ Heading.refused q → Due side s q
-  head_due Unknown found long q e = let z : UnknownInstruction ≡ q = cc in subst (Due side s) z (Due.unknown long (lacking (int_at s 0) found))
-  head_due (Known sender shape) found long q e =
+  head_due : (f : Option (Side × Shape)) → find_of (int_at s 0) ≡ f → 8 ≤ length s → (q : Refusal) → head_of side (int_at s 4) f ≡ Heading.refused q → Due side s q
+  head_due None found long q e = let z : UnknownInstruction ≡ q = cc in subst (Due side s) z (Due.unknown long (lacking (int_at s 0) found))
+  head_due (Some (sender, shape)) found long q e =
       let listed : InTable (int_at s 0, sender, shape) = listed_find (int_at s 0) sender shape found in
       either (same_side sender side) _ _ e
       (λ same e₁. either (ltb 10240 (int_at s 4)) _ _ e₁

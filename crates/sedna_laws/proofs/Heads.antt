@@ -1,4 +1,5 @@
 -- The eight head bytes: when they are taken, and as what.
+use Rattle.std.specs.Prelude.{Option, Some, None}
 use mathlib.Core.Path.{◌≡◌, refl, subst₂}
 use mathlib.Core.List.{List, ◌++◌}
 use mathlib.Core.Bool.{true}
@@ -11,8 +12,6 @@ use Rattle.wire.specs.Bytes.{IsBytes, int, int_at}
 use Rattle.sedna.specs.declared.Side.{Side}
 use Rattle.sedna.specs.declared.Side.TheVariants.{Client, Server}
 use Rattle.sedna.specs.declared.Shape.{Shape}
-use Rattle.sedna.specs.declared.Found.{Found}
-use Rattle.sedna.specs.declared.Found.TheVariants.{Known, Unknown}
 use Rattle.sedna.specs.Kinds.{same_side}
 use Rattle.sedna.specs.Table.{InTable, find_of}
 use Rattle.sedna_read.specs.Reading.{Heading, head_of, heading}
@@ -39,9 +38,9 @@ pub head_back : (side : Side) (s : List ℕ) (shape : Shape) (n : ℕ) → headi
 unfolding heading
 head_back side s shape n p = either (ltb (length s) 8) _ _ p (λ _ q. apart (cc)) (λ long q. by (find_of (int_at s 0)) refl (ltb-false (length s) 8 long) q)
   where
-    by : (f : Found) → find_of (int_at s 0) ≡ f → 8 ≤ length s → head_of side (int_at s 4) f ≡ Heading.headed shape n → Head side s shape n
-    by Unknown found long p = apart (cc)
-    by (Known sender x) found long p =
+    by : (f : Option (Side × Shape)) → find_of (int_at s 0) ≡ f → 8 ≤ length s → head_of side (int_at s 4) f ≡ Heading.headed shape n → Head side s shape n
+    by None found long p = apart (cc)
+    by (Some (sender, x)) found long p =
         either (same_side sender side) _ _ p
         (λ same p₁. either (ltb 10240 (int_at s 4)) _ _ p₁ (λ _ q. apart (cc)) λ short p₂.
         let shape' : x ≡ shape = cc in

@@ -1,4 +1,7 @@
 -- Options given to the writer as three lists: they are a message's options, and every message's options can be given so; or the lists do not belong together.
+use Rattle.sedna.specs.declared.Shape.{Shape}
+use Rattle.sedna.specs.declared.Side.{Side}
+use Rattle.std.specs.Prelude.{Option, Some, None, Ok, Err}
 use mathlib.Core.Path.{◌≡◌, refl, sym, ◌∙◌, ap, subst}
 use mathlib.Core.List.{List, [], ◌∷◌, ◌++◌, map, flatten}
 use mathlib.Core.Bool.{Bool, true, false}
@@ -12,16 +15,12 @@ use borrow.Author.Tests.{eq-eqb, eqb-true}
 use Rattle.wire.specs.Bytes.{if}
 use Rattle.wire.specs.declared.Refusal.{Refusal}
 use Rattle.wire.specs.declared.Refusal.TheVariants.{UnknownInstruction, ValueNotAllowed}
-use Rattle.sedna.specs.declared.Found.{Found}
-use Rattle.sedna.specs.declared.Found.TheVariants.{Known, Unknown}
-use Rattle.sedna.specs.declared.Fit.TheVariants as fit
 use Rattle.sedna.specs.declared.Shape.TheVariants as shape
 use Rattle.sedna.specs.Allowed.{allowed}
 use Rattle.sedna.specs.Encode.{body_bytes, pairs_bytes}
 use Rattle.sedna.specs.Message.{Pair, Body, message}
 use Rattle.sedna.specs.Kinds.{same_shape}
 use Rattle.sedna.specs.Table.{find_of, fit_of}
-use Rattle.wire.specs.declared.Counted.TheVariants.{Refused}
 use Rattle.sedna_write.specs.Pairs.{sum, given, pairs_of, options_written}
 use Rattle.sedna_write.specs.Writing.{judgement_by, judgement, written}
 use Rattle.sedna_laws.specs.Unwritten.{UnwrittenLists}
@@ -102,38 +101,38 @@ pub options_are : (ids lengths values : List ℕ) → given ids lengths values �
 options_are ids lengths values e = let h = (lists_together ids lengths values).0 e in parted ids lengths values h.0 h.1
 
 -- a value that is not allowed: 8 whatever the body in the table, however long and whatever the room
-bad-value : (t : Bool) (n room : ℕ) → judgement_by (if t fit.Same fit.Other) false n room ≡ Refused ValueNotAllowed
+bad-value : (t : Bool) (n room : ℕ) → judgement_by (if t (Ok tt) (Err ValueNotAllowed)) false n room ≡ Err ValueNotAllowed
 bad-value true n room = refl
 bad-value false n room = refl
 
 module _ (room n i : ℕ) where
   -- what is answered where the table has nothing, or something
-  refused-lists : (r : Refusal) × (judgement i shape.Options false n room ≡ Refused r) × UnwrittenLists i r
+  refused-lists : (r : Refusal) × (judgement i shape.Options false n room ≡ Err r) × UnwrittenLists i r
   unfolding judgement
   refused-lists = by (find_of i) refl
     where
-      by : (f : Found) → find_of i ≡ f → (r : Refusal) × (judgement_by (fit_of f shape.Options) false n room ≡ Refused r) × UnwrittenLists i r
-      by Unknown found = (UnknownInstruction, refl, UnwrittenLists.unknown (lacking i found))
-      by (Known sender own) found = (ValueNotAllowed, bad-value (same_shape own shape.Options) n room, UnwrittenLists.value (i, sender, own) (listed_find i sender own found) refl)
+      by : (f : Option (Side × Shape)) → find_of i ≡ f → (r : Refusal) × (judgement_by (fit_of f shape.Options) false n room ≡ Err r) × UnwrittenLists i r
+      by None found = (UnknownInstruction, refl, UnwrittenLists.unknown (lacking i found))
+      by (Some (sender, own)) found = (ValueNotAllowed, bad-value (same_shape own shape.Options) n room, UnwrittenLists.value (i, sender, own) (listed_find i sender own found) refl)
 
-  due-lists : {r : Refusal} → UnwrittenLists i r → judgement i shape.Options false n room ≡ Refused r
+  due-lists : {r : Refusal} → UnwrittenLists i r → judgement i shape.Options false n room ≡ Err r
   unfolding judgement
   due-lists (UnwrittenLists.unknown none) = rw (lacks i none)
   due-lists (UnwrittenLists.value e listed same) = rw (ap find_of (sym same) ∙ find_listed e listed) (bad-value (same_shape e.2 shape.Options) n room)
 
 -- lists that do not belong together: 2 or 8, exactly when it is due
 pub lists_refused : (room i : ℕ) (ids lengths values : List ℕ) → given ids lengths values ≡ false → (r : Refusal)
-    → (judgement i shape.Options (given ids lengths values) (length (pairs_bytes (pairs_of ids lengths values))) room ≡ Refused r) ↔ UnwrittenLists i r
+    → (judgement i shape.Options (given ids lengths values) (length (pairs_bytes (pairs_of ids lengths values))) room ≡ Err r) ↔ UnwrittenLists i r
 lists_refused room i ids lengths values e r = rw e (back, due-lists room n i)
   where
     n : ℕ
     n = length (pairs_bytes (pairs_of ids lengths values))
 
-    back : judgement i shape.Options false n room ≡ Refused r → UnwrittenLists i r
+    back : judgement i shape.Options false n room ≡ Err r → UnwrittenLists i r
     back q = let x = refused-lists room n i in let z : x.0 ≡ r = cc in subst (UnwrittenLists i) z x.2
 
 -- always one of the two
-pub lists_unwritten : (room i : ℕ) (ids lengths values : List ℕ) → given ids lengths values ≡ false → (r : Refusal) × (options_written room i ids lengths values ≡ Refused r)
+pub lists_unwritten : (room i : ℕ) (ids lengths values : List ℕ) → given ids lengths values ≡ false → (r : Refusal) × (options_written room i ids lengths values ≡ Err r)
 lists_unwritten room i ids lengths values e =
     let n : ℕ = length (pairs_bytes (pairs_of ids lengths values)) in
     let x = refused-lists room n i in

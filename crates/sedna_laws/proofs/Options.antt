@@ -1,4 +1,6 @@
 -- Handing out the options of a SetOptions message.
+use Rattle.sedna_read.specs.declared.OptionPlace.{OptionPlace}
+use Rattle.sedna_read.specs.Places.{option_there}
 use mathlib.Core.Path.{◌≡◌, refl, ◌∙◌, ap, subst}
 use mathlib.Core.List.{List, [], ◌∷◌, ◌++◌, append_assoc, flat_map}
 use Prim.Native.Nat.{ℕ, zero, suc, ◌+◌, ◌-◌, ◌≤◌}
@@ -13,7 +15,6 @@ use Rattle.sedna.specs.Message.{Pair, Body}
 use Rattle.sedna.specs.Encode.{string, pair_bytes, pairs_bytes, body_bytes}
 use Rattle.sedna_read.specs.Fields.{int_field}
 use Rattle.sedna_read.specs.Reading.{Answer, reading, pair_field}
-use Rattle.sedna_read.specs.declared.OptionPlace.TheVariants as option
 use Rattle.sedna_read.specs.Places.{place, option_place, option_after, option_at}
 use Rattle.sedna_read.specs.Meaning.{option_in}
 use Rattle.wire.proofs.Branches.{apart}
@@ -38,20 +39,21 @@ unfolding pair_bytes string int
 pair-length p = omega arith
 
 -- where an option is found, its value lies in what was looked at
-pub option_inside : (k at : ℕ) (w : List ℕ) → IsBytes w → (id : ℕ) (v : Place) → option_at k at w ≡ option.At id v → v.start + v.len ≤ at + length w
+pub option_inside : (k at : ℕ) (w : List ℕ) → IsBytes w → (id : ℕ) (v : Place) → option_at k at w ≡ option_there id v → v.start + v.len ≤ at + length w
 unfolding option_at
 option_inside zero at w h id v e = by (pair_field w) refl e
   where
-    by : (g : Got Pair) → pair_field w ≡ g → option_place at g ≡ option.At id v → v.start + v.len ≤ at + length w
+    by : (g : Got Pair) → pair_field w ≡ g → option_place at g ≡ option_there id v → v.start + v.len ≤ at + length w
     by (Got.refused r) q e = apart (cc)
     by (Got.got p rest) q e =
-        let z : place (at + 9) (length p.value) ≡ v = cc in
+        let o : ◌≡◌ {A = OptionPlace} (record { id = p.id; value = place (at + 9) (length p.value) }) (record { id = id; value = v }) = cc in
+        let z : place (at + 9) (length p.value) ≡ v = ap (λ (x : OptionPlace). x.value) o in
         let l = ap length (pair_back w p rest h q) ∙ length-append (pair_bytes p) rest in
         subst (λ (v : Place). v.start + v.len ≤ at + length w) z (omega (arith, l, pair-length p))
 option_inside (suc k) at w h id v e = by (pair_field w) refl e (option_inside k)
   where
-    by : (g : Got Pair) → pair_field w ≡ g → option_after (option_at k) at g ≡ option.At id v
-        → ((at : ℕ) (w : List ℕ) → IsBytes w → (id : ℕ) (v : Place) → option_at k at w ≡ option.At id v → v.start + v.len ≤ at + length w)
+    by : (g : Got Pair) → pair_field w ≡ g → option_after (option_at k) at g ≡ option_there id v
+        → ((at : ℕ) (w : List ℕ) → IsBytes w → (id : ℕ) (v : Place) → option_at k at w ≡ option_there id v → v.start + v.len ≤ at + length w)
         → v.start + v.len ≤ at + length w
     by (Got.refused r) q e again = apart (cc)
     by (Got.got p rest) q e again =

@@ -1,4 +1,5 @@
 -- Which of document 01's refusal numbers reading answers.
+use Rattle.std.specs.Prelude.{Option, Some, None}
 use mathlib.Core.Path.{◌≡◌, subst}
 use mathlib.Core.List.{List, [], ◌∷◌}
 use mathlib.Core.Bool.{Bool, true, false}
@@ -13,8 +14,6 @@ use Rattle.wire.specs.Refusals.{number_of}
 use Rattle.sedna.specs.declared.Side.{Side}
 use Rattle.sedna.specs.declared.Shape.{Shape}
 use Rattle.sedna.specs.declared.Shape.TheVariants as shape
-use Rattle.sedna.specs.declared.Found.{Found}
-use Rattle.sedna.specs.declared.Found.TheVariants as found
 use Rattle.sedna.specs.Allowed.{version_allowed, format_allowed, class_allowed, type_allowed}
 use Rattle.sedna.specs.Kinds.{same_side}
 use Rattle.sedna.specs.Message.{Body}
@@ -128,9 +127,9 @@ abbrev AnswerIn : Answer → Type 0
 AnswerIn (Answer.refused r) = InReading r
 AnswerIn (Answer.accepted m n) = Unit {0}
 
-head_in : (side : Side) (n : ℕ) (f : Found) → HeadIn (head_of side n f)
-head_in side n found.Unknown = omega arith
-head_in side n (found.Known sender shape) = of_both HeadIn (same_side sender side) _ _ (of_both HeadIn (ltb 10240 n) _ _ (omega arith) tt) (omega arith)
+head_in : (side : Side) (n : ℕ) (f : Option (Side × Shape)) → HeadIn (head_of side n f)
+head_in side n None = omega arith
+head_in side n (Some (sender, shape)) = of_both HeadIn (same_side sender side) _ _ (of_both HeadIn (ltb 10240 n) _ _ (omega arith) tt) (omega arith)
 
 heading_in : (side : Side) (s : List ℕ) → HeadIn (heading side s)
 unfolding heading

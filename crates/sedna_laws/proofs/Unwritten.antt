@@ -1,4 +1,5 @@
 -- Writing refuses exactly as `Unwritten` says: with that number, and at that moment.
+use Rattle.std.specs.Prelude.{Option, Some, None, Result, Ok, Err}
 use mathlib.Core.Bool.{Bool, true, false}
 use mathlib.Core.Logic.{◌↔◌}
 use mathlib.Core.Path.{◌≡◌, refl, sym, ap, subst, ◌∙◌}
@@ -8,12 +9,8 @@ use lib.Dec.{ltb}
 use lib.ListN.{length}
 use borrow.Author.Tests.{lt-ltb, le-ltb, ltb-true, ltb-false, eq-eqb}
 use Rattle.wire.specs.Bytes.{if}
-use Rattle.wire.specs.declared.Counted.{Counted}
 use Rattle.wire.specs.declared.Refusal.{Refusal}
 use Rattle.wire.specs.declared.Refusal.TheVariants.{ValueNotAllowed}
-use Rattle.sedna.specs.declared.Found.{Found}
-use Rattle.sedna.specs.declared.Found.TheVariants.{Known, Unknown}
-use Rattle.sedna.specs.declared.Fit.TheVariants.{Same, Other}
 use Rattle.sedna.specs.declared.Shape.{Shape}
 use Rattle.sedna.specs.declared.Side.{Side}
 use Rattle.sedna.specs.Allowed.{allowed}
@@ -21,7 +18,6 @@ use Rattle.sedna.specs.Encode.{body_bytes}
 use Rattle.sedna.specs.Kinds.{shape_number, same_shape}
 use Rattle.sedna.specs.Message.{Message, shape_of}
 use Rattle.sedna.specs.Table.{InTable, find_of, fit_of}
-use Rattle.wire.specs.declared.Counted.TheVariants.{Refused}
 use Rattle.sedna_write.specs.Writing.{judgement_by, judgement, written}
 use Rattle.sedna_laws.specs.Unwritten.{Unwritten}
 use Rattle.wire.proofs.Branches.{apart, either}
@@ -31,8 +27,8 @@ use Rattle.sedna_laws.proofs.Table.{find_listed, listed_find}
 use Rattle.sedna_laws.proofs.Written.{same_shape_lem, encode-length}
 
 -- a body of the shape that the table has, or of another one
-fitted : {P : Type 0} (t ok : Bool) (n room : ℕ) {w : Counted} → judgement_by (if t Same Other) ok n room ≡ w
-    → (t ≡ true → judgement_by Same ok n room ≡ w → P) → (t ≡ false → judgement_by Other ok n room ≡ w → P) → P
+fitted : {P : Type 0} (t ok : Bool) (n room : ℕ) {w : Result ℕ Refusal} → judgement_by (if t (Ok tt) (Err ValueNotAllowed)) ok n room ≡ w
+    → (t ≡ true → judgement_by (Ok tt) ok n room ≡ w → P) → (t ≡ false → judgement_by (Err ValueNotAllowed) ok n room ≡ w → P) → P
 fitted true ok n room e same other = same refl e
 fitted false ok n room e same other = other refl e
 
@@ -43,16 +39,16 @@ module _ (room : ℕ) (m : Message) where
   k : ℕ
   k = length (body_bytes m.body)
 
-  refused_back : (r : Refusal) → written room m ≡ Refused r → Unwritten room m r
+  refused_back : (r : Refusal) → written room m ≡ Err r → Unwritten room m r
   unfolding judgement k
   refused_back r e = by (find_of m.instruction) refl e
     where
-      so : {q : Refusal} → Refused q ≡ Refused r → Unwritten room m q → Unwritten room m r
+      so : {q : Refusal} → ◌≡◌ {A = Result ℕ Refusal} (Err q) (Err r) → Unwritten room m q → Unwritten room m r
       so {q} e = let z : q ≡ r = cc in subst (Unwritten room m) z
 
-      by : (f : Found) → find_of m.instruction ≡ f → judgement_by (fit_of f (shape_of m.body)) (allowed m.body) k room ≡ Refused r → Unwritten room m r
-      by Unknown found e = so e (Unwritten.unknown (lacking m.instruction found))
-      by (Known sender own) found e =
+      by : (f : Option (Side × Shape)) → find_of m.instruction ≡ f → judgement_by (fit_of f (shape_of m.body)) (allowed m.body) k room ≡ Err r → Unwritten room m r
+      by None found e = so e (Unwritten.unknown (lacking m.instruction found))
+      by (Some (sender, own)) found e =
           let listed : InTable (m.instruction, sender, own) = listed_find m.instruction sender own found in
           fitted (same_shape own (shape_of m.body)) (allowed m.body) k room e
           (λ same e₁.
@@ -66,16 +62,16 @@ module _ (room : ℕ) (m : Message) where
           (λ bad e₂. so e₂ (Unwritten.value (m.instruction, sender, own) listed refl λ both. apart (let z : true ≡ false = sym both.1 ∙ bad in cc))))
           (λ other e₁. so e₁ (Unwritten.value (m.instruction, sender, own) listed refl λ both. apart (let z : true ≡ false = sym (shape_itself own) ∙ ap (same_shape own) both.0 ∙ other in cc)))
 
-  not_so : (own : Shape) → ¬ ((own ≡ shape_of m.body) × (allowed m.body ≡ true)) → (f : Found) (sender : Side) → f ≡ Known sender own
-      → judgement_by (fit_of f (shape_of m.body)) (allowed m.body) k room ≡ Refused ValueNotAllowed
+  not_so : (own : Shape) → ¬ ((own ≡ shape_of m.body) × (allowed m.body ≡ true)) → (f : Option (Side × Shape)) (sender : Side) → f ≡ Some (sender, own)
+      → judgement_by (fit_of f (shape_of m.body)) (allowed m.body) k room ≡ Err ValueNotAllowed
   not_so own unfit f whose found = by (same_shape own (shape_of m.body)) refl (allowed m.body) refl
     where
-      by : (t : Bool) → same_shape own (shape_of m.body) ≡ t → (v : Bool) → allowed m.body ≡ v → judgement_by (fit_of f (shape_of m.body)) (allowed m.body) k room ≡ Refused ValueNotAllowed
+      by : (t : Bool) → same_shape own (shape_of m.body) ≡ t → (v : Bool) → allowed m.body ≡ v → judgement_by (fit_of f (shape_of m.body)) (allowed m.body) k room ≡ Err ValueNotAllowed
       by false other v q = rw (found, other)
       by true same false bad = rw (found, same, bad)
       by true same true ok = absurd (unfit (same_shape_lem own (shape_of m.body) same, ok))
 
-  refused_forth : {r : Refusal} → Unwritten room m r → written room m ≡ Refused r
+  refused_forth : {r : Refusal} → Unwritten room m r → written room m ≡ Err r
   unfolding judgement k
   refused_forth (Unwritten.unknown none) = rw (lacks m.instruction none)
   refused_forth (Unwritten.value e listed same unfit) = not_so e.2 unfit (find_of m.instruction) e.1 (ap find_of (sym same) ∙ find_listed e listed)
@@ -86,5 +82,5 @@ module _ (room : ℕ) (m : Message) where
       (room-short room 0 (8 + k) (omega (arith, less, encode-length m)))
 
 -- demand 1, writing: a refusal is given exactly when it is due
-pub unwritten_exact : (room : ℕ) (m : Message) (r : Refusal) → (written room m ≡ Refused r) ↔ Unwritten room m r
+pub unwritten_exact : (room : ℕ) (m : Message) (r : Refusal) → (written room m ≡ Err r) ↔ Unwritten room m r
 unwritten_exact room m r = (refused_back room m r, refused_forth room m)

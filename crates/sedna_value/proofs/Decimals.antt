@@ -1,14 +1,13 @@
 -- A decimal by the two runs of digits that it is, and its digits as one number.
 use mathlib.Core.Bool.{Bool, true, false}
 use mathlib.Core.List.{List}
-use mathlib.Core.Path.{◌≡◌, sym, ap, subst}
+use mathlib.Core.Path.{◌≡◌}
 use Prim.Native.Nat.{ℕ, ◌+◌, ◌-◌, ◌≤◌, ◌*◌, ◌^◌, ◌<◌, min}
 use native.Mathlib.Nat.{add-sub_cancel_left, mul-le-mul_right, le_trans, lt_of_lt_of_le, pow-le-pow_right}
 use native.Mathlib.Omega.{arith}
 use lib.Dec.{eqb, lit<, lit≤}
-use lib.ListN.{length, drop, get_or, get_or-eq_default}
+use lib.ListN.{drop, get_or}
 use lib.Pow.{pow-add}
-use borrow.Author.Tests.{eq-eqb}
 use Rattle.wire.specs.Bytes.{if}
 use Rattle.sedna_digits.specs.declared.Run.{Run}
 use Rattle.sedna_digits.specs.Digits.{digits_at}
@@ -27,9 +26,9 @@ abbrev pub pointed : ℕ → Run → Run → Decimal
 pointed at w f = record { before = w.end - at; behind = f.end - (w.end + 1); whole = w.number; fraction = f.number; end = f.end }
 
 -- the numbers have no more digits than were counted
-pub decimal-fits : (s : List ℕ) (at : ℕ) → DecimalFits (decimal_at s at)
+pub decimal_fits : (s : List ℕ) (at : ℕ) → DecimalFits (decimal_at s at)
 unfolding decimal_at
-decimal-fits s at = by (eqb (get_or s point 0) 46)
+decimal_fits s at = by (eqb (get_or s point 0) 46)
   where
     point : ℕ
     point = (digits_at s at).end
@@ -41,25 +40,6 @@ decimal-fits s at = by (eqb (get_or s point 0) 46)
       fraction_fits = rw (add-sub_cancel_left (point + 1)) (run_below (drop (point + 1) s) (omega arith));
     }
     by false = λ few. record { few = few; whole_fits = rw (add-sub_cancel_left at) (run_below (drop at s) (omega arith)); fraction_fits = lit< tt }
-
-module _ (s : List ℕ) (at : ℕ) (w : Run) (e : w ≡ digits_at s at) where
-  pub plain-is : eqb (get_or s w.end 0) 46 ≡ false → plain at w ≡ decimal_at s at
-  unfolding decimal_at
-  plain-is = subst (λ (w : Run). eqb (get_or s w.end 0) 46 ≡ false → plain at w ≡ decimal_at s at) (sym e) (λ p. rw p)
-
-  pub pointed-is : (f : Run) → get_or s w.end 0 ≡ 46 → f ≡ digits_at s (w.end + 1) → pointed at w f ≡ decimal_at s at
-  unfolding decimal_at
-  pointed-is f p g =
-      subst (λ (f : Run). pointed at w f ≡ decimal_at s at) (sym g)
-      (subst (λ (w : Run). get_or s w.end 0 ≡ 46 → pointed at w (digits_at s (w.end + 1)) ≡ decimal_at s at) (sym e)
-      (λ q. rw (eq-eqb (get_or s (digits_at s at).end 0) 46 q)) p)
-
-  pub run-from : at ≤ w.end
-  run-from = omega (arith, ap (λ (r : Run). r.end) e)
-
--- behind the end there is no point
-pub no-point : (s : List ℕ) (at : ℕ) → length s ≤ at → eqb (get_or s at 0) 46 ≡ false
-no-point s at h = rw (get_or-eq_default s 0 h)
 
 -- ---- the digits of a decimal as one number: below 10 ^ 15, so that it is a double exactly, as the power of ten is
 

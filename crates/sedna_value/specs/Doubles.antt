@@ -1,9 +1,11 @@
 -- Doubles as they are read.
+use Rattle.std.specs.Prelude.{Result, Ok, Err}
+use Rattle.wire.specs.declared.Refusal.{Refusal}
 use mathlib.Core.{Bool.Bool, Bool.true, Bool.false, List.List}
 use Rattle.std.specs.Prelude.{ℕ, ◌+◌, ◌-◌, ◌*◌, ◌^◌}
 use lib.{Dec.eqb, Dec.ltb, Ieee.Float, Ieee.binary64, Ieee.of_int, Ieee.div, Ieee.neg, IntN.pos, ListN.length, ListN.get_or}
 use Rattle.wire.specs.{Bytes.if, declared.Refusal.TheVariants.NotOfForm, declared.Refusal.TheVariants.OutOfRange}
-use Rattle.sedna_value.specs.{declared.Value.TheVariants.Double, declared.Valued.Valued, declared.doubles.Decimal.Decimal}
+use Rattle.sedna_value.specs.{declared.Value.Value, declared.Value.TheVariants.Double, declared.doubles.Decimal.Decimal}
 use Rattle.sedna_digits.specs.{declared.Run.Run, Digits.digits_at, Digits.behind_sign}
 
 -- "the one rounded division of the digits by the power of ten": both as doubles
@@ -37,10 +39,10 @@ abbrev pub inf_at : List ℕ → ℕ → Bool
 inf_at s at = if (eqb (get_or s at 0) 73) (if (eqb (get_or s (at + 1) 0) 78) (eqb (get_or s (at + 2) 0) 70) false) false
 
 -- INF, -INF and NaN
-unfoldable pub special_of : List ℕ → Valued
+unfoldable pub special_of : List ℕ → Result Value Refusal
 special_of s =
     if (if (eqb (length s) 3) (if (inf_at s 0) true (nan_at s)) (if (eqb (length s) 4) (if (eqb (get_or s 0 0) 45) (inf_at s 1) false) false))
-    (Valued.Refused OutOfRange) (Valued.Refused NotOfForm)
+    (Err OutOfRange) (Err NotOfForm)
 
 abbrev exponent_by : List ℕ → ℕ → Run → Bool
 exponent_by s start r = if (eqb r.end start) false (eqb r.end (length s))
@@ -52,13 +54,13 @@ is_e b = if (eqb b 69) true (eqb b 101)
 unfoldable pub exponent_at : List ℕ → ℕ → Bool
 exponent_at s at = if (is_e (get_or s at 0)) (exponent_by s (behind_sign s (at + 1)) (digits_at s (behind_sign s (at + 1)))) false
 
-abbrev pub decided_of : Bool → Decimal → Valued
-decided_of minus d = if (ltb 15 (d.before + d.behind)) (Valued.Refused OutOfRange) (Valued.Is (Double (negated minus (quotient d))))
+abbrev pub decided_of : Bool → Decimal → Result Value Refusal
+decided_of minus d = if (ltb 15 (d.before + d.behind)) (Err OutOfRange) (Ok (Double (negated minus (quotient d))))
 
-abbrev double_by : List ℕ → Decimal → Valued
+abbrev double_by : List ℕ → Decimal → Result Value Refusal
 double_by s d =
     if (eqb (d.before + d.behind) 0) (special_of s)
-    (if (ltb d.end (length s)) (if (exponent_at s d.end) (Valued.Refused OutOfRange) (Valued.Refused NotOfForm)) (decided_of (eqb (get_or s 0 0) 45) d))
+    (if (ltb d.end (length s)) (if (exponent_at s d.end) (Err OutOfRange) (Err NotOfForm)) (decided_of (eqb (get_or s 0 0) 45) d))
 
-unfoldable pub double_of : List ℕ → Valued
+unfoldable pub double_of : List ℕ → Result Value Refusal
 double_of s = double_by s (decimal_at s (behind_sign s 0))

@@ -4,9 +4,9 @@
 #![tactic(auto)]
 
 ghost use Rattle.std.specs.Prelude.{◌≡◌};
-ghost use Rattle.sedna_value.specs.Values.{from_dated, value_of};
+ghost use Rattle.sedna_value.specs.Values.{value_of};
 
-use sedna_instant::{Dated, Instant};
+use sedna_instant::Instant;
 use wire::Refusal;
 
 mod booleans;
@@ -21,34 +21,20 @@ pub enum Value {
     Double(f64),
 }
 
-#[derive(Clone, Copy)]
-pub enum Valued {
-    Is(Value),
-    Refused(Refusal),
-}
-
-fn from_dated(d: Dated) -> Valued
-    ensures { result ≡ from_dated d }
-{
-    match d {
-        Dated::At(i) => Valued::Is(Value::At(i)),
-        Dated::Refused(r) => Valued::Refused(r),
-    }
-}
-
 // The value of an item's text: 15 for another class than 1, another type than those here, and a text that is not of
 // its type's form; then 16 for one that is, and has no value.
-pub fn value_of(class: u8, kind: u8, text: &[u8]) -> Valued
+#[tactic(auto, unfolding(crate::specs::Values::value_of))]
+pub fn value_of(class: u8, kind: u8, text: &[u8]) -> Result<Value, Refusal>
     ensures { result ≡ value_of class kind text.now }
 {
     if class != 1 {
-        return Valued::Refused(Refusal::NotOfForm);
+        return Err(Refusal::NotOfForm);
     }
     match kind {
-        10 => from_dated(sedna_instant::read::instant(text)),
+        10 => sedna_instant::read::instant(text).map(Value::At),
         22 => doubles::double(text),
         25 => booleans::boolean(text),
         24 | 50..=61 => wholes::whole(kind, text),
-        _ => Valued::Refused(Refusal::NotOfForm),
+        _ => Err(Refusal::NotOfForm),
     }
 }

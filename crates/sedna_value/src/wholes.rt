@@ -2,8 +2,8 @@
 ghost use Rattle.std.specs.Prelude.{◌≡◌};
 ghost use Rattle.sedna_value.specs.Wholes.{least_of, greatest_of, signed_of, ranged_of, whole_of};
 
-use crate::{Value, Valued};
-use sedna_digits::{behind_sign, byte_at, digits};
+use crate::Value;
+use sedna_digits::{behind_sign, digits};
 use wire::Refusal;
 
 // The least number of a type, as far as 64 bits with a sign hold it.
@@ -11,10 +11,10 @@ fn least(kind: u8) -> i64
     ensures { result ≡ least_of kind }
 {
     match kind {
-        24 | 50 | 51 | 52 => -9223372036854775808,
-        53 => -2147483648,
-        54 => -32768,
-        55 => -128,
+        24 | 50..=52 => i64::MIN,
+        53 => i64::from(i32::MIN),
+        54 => i64::from(i16::MIN),
+        55 => i64::from(i8::MIN),
         61 => 1,
         _ => 0,
     }
@@ -27,72 +27,48 @@ fn greatest(kind: u8) -> i64
     match kind {
         50 => 0,
         51 => -1,
-        53 => 2147483647,
-        54 => 32767,
-        55 => 127,
-        58 => 4294967295,
-        59 => 65535,
-        60 => 255,
-        _ => 9223372036854775807,
+        53 => i64::from(i32::MAX),
+        54 => i64::from(i16::MAX),
+        55 => i64::from(i8::MAX),
+        58 => i64::from(u32::MAX),
+        59 => i64::from(u16::MAX),
+        60 => i64::from(u8::MAX),
+        _ => i64::MAX,
     }
-}
-
-// A number of 64 bits with a sign, or one beyond them.
-#[derive(Clone, Copy)]
-pub enum Signed {
-    Is(i64),
-    Overflow,
 }
 
 // The least is made without its magnitude, which does not fit.
-fn with_sign(minus: bool, n: u64) -> Signed
+// A flag: the sign that stood in front.
+#[tactic(auto, unfolding(crate::specs::Wholes::signed_of))]
+fn with_sign(minus: bool, n: u64) -> Option<i64>
     ensures { result ≡ signed_of minus n }
 {
-    if n <= 9223372036854775807 {
-        let m = n as i64;
-        if minus {
-            return Signed::Is(0 - m);
-        }
-        return Signed::Is(m);
+    match i64::try_from(n) {
+        Ok(m) => Some(if minus { -m } else { m }),
+        Err(_) if minus && n == i64::MIN.unsigned_abs() => Some(i64::MIN),
+        Err(_) => None,
     }
-    if n == 9223372036854775808 {
-        if minus {
-            return Signed::Is(-9223372036854775808);
-        }
-    }
-    Signed::Overflow
 }
 
 // 16 where the number is out of its type's range.
-fn ranged(kind: u8, n: Signed) -> Valued
+fn ranged(kind: u8, n: Option<i64>) -> Result<Value, Refusal>
     ensures { result ≡ ranged_of kind n }
 {
     match n {
-        Signed::Is(i) => {
-            if i < least(kind) {
-                return Valued::Refused(Refusal::OutOfRange);
-            }
-            if greatest(kind) < i {
-                return Valued::Refused(Refusal::OutOfRange);
-            }
-            Valued::Is(Value::Whole(i))
-        }
-        Signed::Overflow => Valued::Refused(Refusal::OutOfRange),
+        Some(i) if least(kind) <= i && i <= greatest(kind) => Ok(Value::Whole(i)),
+        _ => Err(Refusal::OutOfRange),
     }
 }
 
 // An optional sign and digits, and nothing else.
-pub fn whole(kind: u8, s: &[u8]) -> Valued
+#[tactic(auto, unfolding(crate::specs::Wholes::whole_of))]
+pub fn whole(kind: u8, s: &[u8]) -> Result<Value, Refusal>
     ensures { result ≡ whole_of kind s.now }
 {
     let at = behind_sign(s, 0);
     let run = digits(s, at);
-    if run.end == at {
-        return Valued::Refused(Refusal::NotOfForm);
+    if run.end == at || run.end < s.len() {
+        return Err(Refusal::NotOfForm);
     }
-    if run.end < s.len() {
-        return Valued::Refused(Refusal::NotOfForm);
-    }
-    let minus = byte_at(s, 0) == b'-';
-    ranged(kind, with_sign(minus, run.number))
+    ranged(kind, with_sign(s.starts_with(b"-"), run.number))
 }

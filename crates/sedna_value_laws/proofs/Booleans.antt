@@ -1,4 +1,5 @@
 -- A boolean's text is read as what it means.
+use Rattle.std.specs.Prelude.{Err}
 use mathlib.Core.Bool.{Bool, true, false}
 use mathlib.Core.List.{List, [], ◌∷◌}
 use mathlib.Core.Logic.{◌⊎◌, inl, inr}
@@ -12,7 +13,6 @@ use Rattle.wire.specs.Bytes.{if}
 use Rattle.wire.proofs.Branches.{both}
 use Rattle.wire.specs.declared.Refusal.TheVariants.{NotOfForm}
 use Rattle.sedna_value.specs.declared.Value.TheVariants.{Boolean}
-use Rattle.sedna_value.specs.declared.Valued.TheVariants as valued
 use Rattle.sedna_value.specs.Booleans.{true_at, false_at, of_bool, boolean_of}
 use Rattle.sedna_value_laws.specs.BooleanTexts.{BooleanText, written, meant}
 use Rattle.sedna_value_laws.specs.Texts.{Kind}
@@ -20,7 +20,7 @@ use Rattle.sedna_value_laws.proofs.Reader.{Answer, Reader}
 
 -- a text of its form, or none
 abbrev Sound : List ℕ → Type 0
-Sound s = ((t : BooleanText) × Unit {0} × (s ≡ written t)) ⊎ (boolean_of s ≡ valued.Refused NotOfForm)
+Sound s = ((t : BooleanText) × Unit {0} × (s ≡ written t)) ⊎ (boolean_of s ≡ Err NotOfForm)
 
 -- the two words
 true_back : (a b c d : ℕ) → true_at (a ∷ b ∷ c ∷ d ∷ []) ≡ true → a ∷ b ∷ c ∷ d ∷ [] ≡ written BooleanText.true-word
@@ -40,12 +40,12 @@ false_back a b c d e h =
 
 -- a text that is as long as the word w, and w where the test holds
 word : (s : List ℕ) (w : BooleanText) (t : Bool) → (t ≡ true → s ≡ written w)
-    → ((x : BooleanText) × Unit {0} × (s ≡ written x)) ⊎ (if t (of_bool (meant w)) (valued.Refused NotOfForm) ≡ valued.Refused NotOfForm)
+    → ((x : BooleanText) × Unit {0} × (s ≡ written x)) ⊎ (if t (of_bool (meant w)) (Err NotOfForm) ≡ Err NotOfForm)
 word s w true back = inl (w, tt, back refl)
 word s w false back = inr refl
 
 -- no text is longer than false
-long : (s : List ℕ) → 5 < length s → boolean_of s ≡ valued.Refused NotOfForm
+long : (s : List ℕ) → 5 < length s → boolean_of s ≡ Err NotOfForm
 unfolding boolean_of
 long s h =
     let a : length s ≡ 1 → ⊥ = λ e. omega arith in
@@ -58,7 +58,7 @@ unfolding boolean_of
 sound [] = inr refl
 sound (a ∷ []) = by (eqb a 49) refl
   where
-    by : (t : Bool) → eqb a 49 ≡ t → ((x : BooleanText) × Unit {0} × (a ∷ [] ≡ written x)) ⊎ (if t (of_bool true) (if (eqb a 48) (of_bool false) (valued.Refused NotOfForm)) ≡ valued.Refused NotOfForm)
+    by : (t : Bool) → eqb a 49 ≡ t → ((x : BooleanText) × Unit {0} × (a ∷ [] ≡ written x)) ⊎ (if t (of_bool true) (if (eqb a 48) (of_bool false) (Err NotOfForm)) ≡ Err NotOfForm)
     by true e = inl (BooleanText.one, tt, rw (eqb-true a 49 e))
     by false e = word (a ∷ []) BooleanText.zero (eqb a 48) (λ f. rw (eqb-true a 48 f))
 sound (a ∷ b ∷ []) = inr refl

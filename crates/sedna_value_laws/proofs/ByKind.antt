@@ -1,4 +1,6 @@
 -- The kind of values that a type has, and the reader that is asked for it.
+use Rattle.std.specs.Prelude.{Result, Err}
+use Rattle.wire.specs.declared.Refusal.{Refusal}
 use mathlib.Core.Bool.{Bool, true, false, not}
 use mathlib.Core.List.{List, [], ◌∷◌}
 use mathlib.Core.Option.{Option, none, some}
@@ -11,8 +13,7 @@ use Rattle.wire.specs.Bytes.{if, between}
 use Rattle.wire.specs.Every.{Every}
 use Rattle.wire.specs.declared.Refusal.TheVariants.{NotOfForm}
 use Rattle.sedna_instant.specs.DateTimes.{instant_of}
-use Rattle.sedna_value.specs.declared.Valued.{Valued}
-use Rattle.sedna_value.specs.declared.Valued.TheVariants as valued
+use Rattle.sedna_value.specs.declared.Value.{Value}
 use Rattle.sedna_value.specs.Doubles.{double_of}
 use Rattle.sedna_value_laws.specs.Types.{WholeType, whole_types}
 use Rattle.sedna_value.specs.Booleans.{boolean_of}
@@ -22,7 +23,7 @@ use Rattle.sedna_value_laws.specs.Texts.{Kind, among, kind_of}
 use Rattle.wire.proofs.Below.{below}
 use Rattle.wire.proofs.Branches.{apart, either, both}
 
-abbrev pub read_by : Kind → List ℕ → Valued
+abbrev pub read_by : Kind → List ℕ → Result Value Refusal
 read_by (Kind.whole w) s = whole_of w.type s
 read_by Kind.instant s = from_dated (instant_of s)
 read_by Kind.boolean s = boolean_of s
@@ -44,7 +45,7 @@ of_whole_lem : (n : ℕ) (s : List ℕ) → of_whole n ≡ true → by_type n s 
 of_whole_lem n s e = by (eqb n 10) (eqb n 22) (eqb n 25) (is_whole n) e
   where
     by : (a b c d : Bool) → if a false (if b false (if c false d)) ≡ true
-        → if a (from_dated (instant_of s)) (if b (double_of s) (if c (boolean_of s) (if d (whole_of n s) (valued.Refused NotOfForm)))) ≡ whole_of n s
+        → if a (from_dated (instant_of s)) (if b (double_of s) (if c (boolean_of s) (if d (whole_of n s) (Err NotOfForm)))) ≡ whole_of n s
     by true b c d e = apart (cc)
     by false true c d e = apart (cc)
     by false false true d e = apart (cc)
@@ -112,7 +113,7 @@ kind-read n k e s =
         (subst (λ (m : ℕ). by_type m s ≡ whole_of f.0.type s) (sym f.2) (of_whole_lem f.0.type s f.3))
 
 -- one that is not named is refused
-pub unnamed : (n : ℕ) → kind_of n ≡ none → (s : List ℕ) → by_type n s ≡ valued.Refused NotOfForm
+pub unnamed : (n : ℕ) → kind_of n ≡ none → (s : List ℕ) → by_type n s ≡ Err NotOfForm
 unfolding kind_of
 unnamed n e s =
     either (eqb n 10) (some Kind.instant) _ e (λ p q. apart (cc))

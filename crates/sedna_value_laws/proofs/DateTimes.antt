@@ -1,4 +1,6 @@
 -- Instants are read exactly.
+use Rattle.std.specs.Prelude.{Result, Err}
+use Rattle.wire.specs.declared.Refusal.{Refusal}
 use mathlib.Core.Path.{◌≡◌, refl, sym, ap, ◌∙◌, subst}
 use mathlib.Core.List.{List, ◌++◌}
 use mathlib.Core.Bool.{true}
@@ -16,15 +18,12 @@ use Rattle.sedna_digits.specs.Digits.{kept}
 use Rattle.sedna_digits.proofs.Numbers.{number_append}
 use Rattle.sedna_digits.proofs.Kept.{kept_by, kept-zero}
 use Rattle.sedna_digits.proofs.Runs.{kept-digits}
-use Rattle.sedna_instant.specs.declared.Dated.{Dated}
 use Rattle.sedna_instant.specs.declared.Instant.{Instant}
-use Rattle.sedna_instant.specs.declared.Dated.TheVariants as dated
 use Rattle.sedna_instant.specs.Calendar.{years_to, months_to, days_before}
 use Rattle.sedna_instant.specs.DateTimes.{seconds_of, nanos_of, zoned_of, instant_of}
 use Rattle.sedna_instant.specs.DateTimes as instants
 use Rattle.sedna_value.specs.declared.Value.TheVariants.{At}
 use Rattle.sedna_value.specs.declared.Value.{Value}
-use Rattle.sedna_value.specs.declared.Valued.TheVariants as valued
 use Rattle.sedna_value.specs.Values.{from_dated}
 use Rattle.sedna_value_laws.specs.DateTimeTexts.{Zone, DateTime, fraction_text, Formed, FormedZone, Excluded, offset, seconds, local, nanoseconds, written, Means}
 use Rattle.sedna_value_laws.specs.Texts.{Kind}
@@ -93,7 +92,7 @@ module _ (t : DateTime) (f : Formed t) where
   nanos_read : length t.fraction ≤ 9 → kept (number t.fraction) * 10 ^ (9 - length t.fraction) ≡ nanoseconds t
   nanos_read l = ap (λ (m : ℕ). m * 10 ^ (9 - length t.fraction)) (kept-digits t.fraction f.fraction (omega arith)) ∙ sym (padded t.fraction (9 - length t.fraction))
 
-  abbrev Right : Dated → Type 0
+  abbrev Right : Result Instant Refusal → Type 0
   Right d = Answer Kind.instant t (from_dated d)
 
   module _ (at end : ℕ) where
@@ -154,12 +153,12 @@ never_both t v m (Excluded.more_digits b) = omega arith
 pub instant_reader : Reader Kind.instant (λ (s : List ℕ). from_dated (instant_of s))
 instant_reader = record {
   sound = λ s. by s (instant-sound s);
-  complete = λ t f. subst (λ (d : Dated). Answer Kind.instant t (from_dated d)) (sym (instant-read t f)) (answered t f (after t.minus) (after t.minus + length t.year + 15 + length (fraction_text t.fraction)));
+  complete = λ t f. subst (λ (d : Result Instant Refusal). Answer Kind.instant t (from_dated d)) (sym (instant-read t f)) (answered t f (after t.minus) (after t.minus + length t.year + 15 + length (fraction_text t.fraction)));
   one_value = one-instant;
   apart = never_both;
 }
   where
-    by : (s : List ℕ) → ((t : DateTime) × Formed t × (s ≡ written t)) ⊎ (instant_of s ≡ dated.Refused NotOfForm)
-        → ((t : DateTime) × Formed t × (s ≡ written t)) ⊎ (from_dated (instant_of s) ≡ valued.Refused NotOfForm)
+    by : (s : List ℕ) → ((t : DateTime) × Formed t × (s ≡ written t)) ⊎ (instant_of s ≡ Err NotOfForm)
+        → ((t : DateTime) × Formed t × (s ≡ written t)) ⊎ (from_dated (instant_of s) ≡ Err NotOfForm)
     by s (inl t) = inl t
     by s (inr e) = inr (ap from_dated e)

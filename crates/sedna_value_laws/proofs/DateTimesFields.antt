@@ -1,4 +1,5 @@
 -- A text that is no instant of its form is refused with 15, and one that is is read field by field.
+use Rattle.std.specs.Prelude.{Result, Ok, Err}
 use mathlib.Core.Path.{◌≡◌, refl, sym, ap, subst, ◌∙◌}
 use mathlib.Core.Bool.{true, Bool, false}
 use mathlib.Core.List.{List, ◌++◌}
@@ -14,13 +15,9 @@ use Rattle.wire.proofs.Branches.{apart}
 use Rattle.sedna_digits.specs.Numbers.{text}
 use Rattle.sedna_digits.specs.Digits.{is_digit}
 use Rattle.sedna_instant.specs.declared.fields.Clock.{Clock}
-use Rattle.sedna_instant.specs.declared.fields.Fraction.{Fraction}
-use Rattle.sedna_instant.specs.declared.fields.Year.{Year}
-use Rattle.sedna_instant.specs.declared.fields.ZoneFound.{ZoneFound}
-use Rattle.sedna_instant.specs.declared.Dated.TheVariants as dated
-use Rattle.sedna_instant.specs.declared.fields.ZoneFound.TheVariants as zone
-use Rattle.sedna_instant.specs.declared.fields.ZoneFound as reads
-use Rattle.sedna_instant.specs.DateTimes.{year_of, marks_at, clock_at, fraction_at, zone_at, zoned_of, is_formed, instant_of, instant_by, instant_from}
+use Rattle.wire.specs.declared.Refusal.{Refusal}
+use Rattle.wire.specs.declared.Refusal.TheVariants as refusals
+use Rattle.sedna_instant.specs.DateTimes.{YearAt, FractionAt, year_of, marks_at, clock_at, fraction_at, zone_at, zoned_of, is_formed, instant_of, instant_by, instant_from}
 use Rattle.sedna_value_laws.specs.DateTimeTexts.{DateTime, Formed, minus_text, clock_text, fraction_text, zone_text, written, Zone}
 use Rattle.sedna_value_laws.proofs.DateTimesPlaces.{unless, first, second, parts, marks_drop, clock-drop, zone-drop, Twos, text_of, clock-sound, clock_of, marks_read, clock-read}
 use Rattle.sedna_value_laws.proofs.DateTimesYears.{year-sound, after, year_is, year-read}
@@ -30,14 +27,32 @@ use Rattle.sedna_value_laws.proofs.DateTimesForms.{Tested, tested, date-sound, t
 
 -- ---- a text either is that of an instant of its form, or is refused with 15
 
+of_form : (r : Refusal) → (r ≡ NotOfForm) ⊎ (r ≡ NotOfForm → ⊥)
+of_form refusals.NotOfForm = inl refl
+of_form refusals.MoreBytes = inr (λ e. apart (cc))
+of_form refusals.UnknownInstruction = inr (λ e. apart (cc))
+of_form refusals.OtherSide = inr (λ e. apart (cc))
+of_form refusals.BodyTooLong = inr (λ e. apart (cc))
+of_form refusals.FieldCut = inr (λ e. apart (cc))
+of_form refusals.StringFormat = inr (λ e. apart (cc))
+of_form refusals.BytesLeftOver = inr (λ e. apart (cc))
+of_form refusals.ValueNotAllowed = inr (λ e. apart (cc))
+of_form refusals.OutOfOrder = inr (λ e. apart (cc))
+of_form refusals.NoRoom = inr (λ e. apart (cc))
+of_form refusals.NoEncoding = inr (λ e. apart (cc))
+of_form refusals.BufferOverrun = inr (λ e. apart (cc))
+of_form refusals.BadEscape = inr (λ e. apart (cc))
+of_form refusals.NoSuchPart = inr (λ e. apart (cc))
+of_form refusals.OutOfRange = inr (λ e. apart (cc))
+
 module _ (s : List ℕ) where
-  abbrev year : Year
+  abbrev year : YearAt
   year = year_of s
 
   abbrev clock : Clock
   clock = clock_at s year.end
 
-  abbrev fraction : Fraction
+  abbrev fraction : FractionAt
   fraction = fraction_at s (year.end + 15)
 
   -- every test was passed
@@ -45,9 +60,9 @@ module _ (s : List ℕ) where
     room : year.end + 15 ≤ length s
     marks : marks_at s year.end ≡ true
     right : Tested year clock fraction
-    zoned : zone_at s fraction.end ≡ zone.Malformed → ⊥
+    zoned : zone_at s fraction.end ≡ Err NotOfForm → ⊥
 
-  passes : Passed ⊎ (instant_of s ≡ dated.Refused NotOfForm)
+  passes : Passed ⊎ (instant_of s ≡ Err NotOfForm)
   unfolding instant_of
   passes =
       unless (ltb (length s) (year.end + 15)) _ _ _ (λ e. inr refl) λ room.
@@ -55,11 +70,14 @@ module _ (s : List ℕ) where
       unless (is_formed year clock fraction) _ _ _ (λ right. by (zone_at s fraction.end) refl (ltb-false (length s)
       (year.end + 15) room) marks (tested year clock fraction right)) λ e. inr refl) λ e. inr refl
     where
-      by : (z : ZoneFound) → zone_at s fraction.end ≡ z → year.end + 15 ≤ length s → marks_at s year.end ≡ true → Tested year clock fraction
-          → Passed ⊎ (zoned_of year clock fraction z ≡ dated.Refused NotOfForm)
-      by zone.Malformed e room marks right = inr refl
-      by zone.Missing e room marks right = inl (record { room = room; marks = marks; right = right; zoned = λ z. apart (cc) })
-      by (zone.Shift n) e room marks right = inl (record { room = room; marks = marks; right = right; zoned = λ z. apart (cc) })
+      by : (z : Result ℕ Refusal) → zone_at s fraction.end ≡ z → year.end + 15 ≤ length s → marks_at s year.end ≡ true → Tested year clock fraction
+          → Passed ⊎ (zoned_of year clock fraction z ≡ Err NotOfForm)
+      by (Ok n) e room marks right = inl (record { room = room; marks = marks; right = right; zoned = λ z. apart (cc) })
+      by (Err r) e room marks right = refused (of_form r)
+        where
+          refused : (r ≡ NotOfForm) ⊎ (r ≡ NotOfForm → ⊥) → Passed ⊎ (zoned_of year clock fraction (Err r) ≡ Err NotOfForm)
+          refused (inl f) = inr (ap Err f)
+          refused (inr n) = inl (record { room = room; marks = marks; right = right; zoned = λ z. n (cc) })
 
 -- fifteen bytes are month, day and time
 clock-front : (s : List ℕ) (at : ℕ) → at + 15 ≤ length s → marks_at s at ≡ true → Twos (clock_at s at) → drop at s ≡ text_of (clock_at s at) ++ drop (at + 15) s
@@ -88,17 +106,17 @@ written_so s p =
     (t, record { year = y.formed; date = date; time = time; fraction = f.formed; zone = z.formed }, joined s t y.front front f.front z.whole)
 
 -- a text is of the form, or is refused with 15
-pub instant-sound : (s : List ℕ) → ((t : DateTime) × Formed t × (s ≡ written t)) ⊎ (instant_of s ≡ dated.Refused NotOfForm)
+pub instant-sound : (s : List ℕ) → ((t : DateTime) × Formed t × (s ≡ written t)) ⊎ (instant_of s ≡ Err NotOfForm)
 instant-sound s = by (passes s)
   where
-    by : Passed s ⊎ (instant_of s ≡ dated.Refused NotOfForm) → ((t : DateTime) × Formed t × (s ≡ written t)) ⊎ (instant_of s ≡ dated.Refused NotOfForm)
+    by : Passed s ⊎ (instant_of s ≡ Err NotOfForm) → ((t : DateTime) × Formed t × (s ≡ written t)) ⊎ (instant_of s ≡ Err NotOfForm)
     by (inl p) = inl (written_so s p)
     by (inr e) = inr e
 
 -- ---- the text of an instant of its form is read field by field as it was written
 
 -- what is answered where every field is known
-by_fields : (s : List ℕ) (y : Year) (c : Clock) (f : Fraction) (z : reads.ZoneFound) → year_of s ≡ y → ltb (length s) (y.end + 15) ≡ false → marks_at s y.end ≡ true
+by_fields : (s : List ℕ) (y : YearAt) (c : Clock) (f : FractionAt) (z : Result ℕ Refusal) → year_of s ≡ y → ltb (length s) (y.end + 15) ≡ false → marks_at s y.end ≡ true
     → clock_at s y.end ≡ c → fraction_at s (y.end + 15) ≡ f → is_formed y c f ≡ true → zone_at s f.end ≡ z → instant_of s ≡ zoned_of y c f z
 unfolding instant_of
 by_fields s y c f z year room marks clock fraction right zone =
@@ -120,10 +138,10 @@ module _ (t : DateTime) (f : Formed t) where
   abbrev at : ℕ
   at = after t.minus + length t.year
 
-  abbrev pub year_read : Year
+  abbrev pub year_read : YearAt
   year_read = year_is t.minus true t.year (after t.minus)
 
-  abbrev pub fraction_read : Fraction
+  abbrev pub fraction_read : FractionAt
   fraction_read = fraction_is true t.fraction (at + 15 + length (fraction_text t.fraction))
 
   abbrev behind : List ℕ

@@ -15,10 +15,8 @@ use Rattle.sedna_digits.specs.Numbers.{number}
 use Rattle.sedna_digits.proofs.Kept.{kept_exact, kept_400, kept-zero}
 use Rattle.sedna_instant.specs.Calendar.{month_length}
 use Rattle.sedna_instant.proofs.Days.{has_days, days_31}
-use Rattle.sedna_instant.specs.DateTimes.{time_right, is_formed}
+use Rattle.sedna_instant.specs.DateTimes.{YearAt, FractionAt, time_right, is_formed}
 use Rattle.sedna_instant.specs.declared.fields.Clock.{Clock}
-use Rattle.sedna_instant.specs.declared.fields.Fraction.{Fraction}
-use Rattle.sedna_instant.specs.declared.fields.Year.{Year}
 use Rattle.sedna_value_laws.specs.DateTimeTexts.{DateTime, FormedDate, FormedTime}
 use Rattle.wire.proofs.Branches.{both, neither}
 use Rattle.sedna_value_laws.proofs.Decimals.{digits-zero}
@@ -84,14 +82,14 @@ module _ (t : DateTime) (n : ℕ) where
 -- ---- all fields
 
 -- what was tested, one by one
-pub record Tested (y : Year) (c : Clock) (f : Fraction) : Type 0 where
+pub record Tested (y : YearAt) (c : Clock) (f : FractionAt) : Type 0 where
   pub year : y.formed ≡ true
   pub fraction : f.formed ≡ true
   pub day_1 : 1 ≤ c.day
   pub day_last : c.day ≤ month_length y.number c.month
   pub time : time_right c f.number ≡ true
 
-pub tested : (y : Year) (c : Clock) (f : Fraction) → is_formed y c f ≡ true → Tested y c f
+pub tested : (y : YearAt) (c : Clock) (f : FractionAt) → is_formed y c f ≡ true → Tested y c f
 tested y c f h =
     let a = (both y.formed _).0 h in
     let b = (both f.formed _).0 a.1 in
@@ -105,7 +103,7 @@ tested y c f h =
       time = l.1;
     }
 
-module _ (t : DateTime) (y : Year) (f : Fraction) (year-is : y.number ≡ kept (number t.year)) (fraction-is : f.number ≡ kept (number t.fraction)) where
+module _ (t : DateTime) (y : YearAt) (f : FractionAt) (year-is : y.number ≡ kept (number t.year)) (fraction-is : f.number ≡ kept (number t.fraction)) where
   same-month : month_length y.number t.month ≡ month_length (number t.year) t.month
   same-month = ap (λ (n : ℕ). month_length n t.month) year-is ∙ month_400 (kept (number t.year)) (number t.year) t.month (kept_400 (number t.year))
 

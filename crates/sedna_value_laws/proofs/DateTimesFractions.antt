@@ -13,13 +13,12 @@ use Rattle.sedna_digits.specs.Digits.{is_digit, run, kept}
 use Rattle.sedna_digits.specs.Numbers.{number, AreDigits, text}
 use Rattle.sedna_digits.proofs.Runs.{run-digits, run-front, run-text}
 use Rattle.sedna_digits.proofs.TwoDigits.{byte-front}
-use Rattle.sedna_instant.specs.DateTimes.{fraction_at}
-use Rattle.sedna_instant.specs.declared.fields.Fraction.{Fraction}
+use Rattle.sedna_instant.specs.DateTimes.{FractionAt, fraction_at}
 use Rattle.sedna_value_laws.specs.DateTimeTexts.{fraction_text}
 use Rattle.sedna_value_laws.proofs.DateTimesPlaces.{at_front}
 
 -- what is read of a fraction
-abbrev pub fraction_is : Bool → List ℕ → ℕ → Fraction
+abbrev pub fraction_is : Bool → List ℕ → ℕ → FractionAt
 fraction_is formed ds end = record { formed = formed; count = length ds; number = kept (number ds); end = end }
 
 module _ (s : List ℕ) (p : ℕ) where
@@ -52,22 +51,22 @@ module _ (s : List ℕ) (p : ℕ) where
           let u : List ℕ = drop (p + 1) s in
           let ds : List ℕ = run u in
           let f = pointed e in
-          let some : 0 < length ds = ltb-true 0 (length ds) (ap (λ (f : Fraction). f.formed) (sym f) ∙ h) in
-          let rest-is : drop (length ds) u ≡ drop (fraction_at s p).end s = drop-drop (length ds) (p + 1) s ∙ ap (λ (f : Fraction). drop f.end s) (sym f) in
+          let some : 0 < length ds = ltb-true 0 (length ds) (ap (λ (f : FractionAt). f.formed) (sym f) ∙ h) in
+          let rest-is : drop (length ds) u ≡ drop (fraction_at s p).end s = drop-drop (length ds) (p + 1) s ∙ ap (λ (f : FractionAt). drop f.end s) (sym f) in
           record {
             digits = ds;
             formed = run-digits u;
             front = byte-front s p 45 (eqb-true (get_or s p 0) 46 e) ∙ ap (λ (n : ℕ). 46 ∷ drop n s) (sym (add-one p)) ∙ ap (λ (l : List ℕ). 46 ∷ l) (run-front u)
                 ∙ ap (λ (l : List ℕ). l ++ drop (length ds) u) (some-text ds some) ∙ ap (λ (l : List ℕ). fraction_text ds ++ l) rest-is;
-            number_is = ap (λ (f : Fraction). f.number) f;
+            number_is = ap (λ (f : FractionAt). f.number) f;
           }
       by false e =
           let f = pointless e in
           record {
             digits = [];
             formed = tt;
-            front = ap (λ (f : Fraction). drop f.end s) (sym f);
-            number_is = ap (λ (f : Fraction). f.number) f;
+            front = ap (λ (f : FractionAt). drop f.end s) (sym f);
+            number_is = ap (λ (f : FractionAt). f.number) f;
           }
 
   -- a fraction that is formed is read as it is, ahead of what is no point and no digit

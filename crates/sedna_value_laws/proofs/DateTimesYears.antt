@@ -14,8 +14,7 @@ use Rattle.sedna_digits.specs.Digits.{is_digit, run, kept}
 use Rattle.sedna_digits.specs.Numbers.{number, AreDigits, text}
 use Rattle.sedna_digits.proofs.Runs.{run-digits, run-front, run-text}
 use Rattle.sedna_digits.proofs.TwoDigits.{byte-front}
-use Rattle.sedna_instant.specs.DateTimes.{year_from, year_of}
-use Rattle.sedna_instant.specs.declared.fields.Year.{Year}
+use Rattle.sedna_instant.specs.DateTimes.{YearAt, year_from, year_of}
 use Rattle.sedna_value_laws.specs.DateTimeTexts.{FormedYear, minus_text}
 use Rattle.sedna_value_laws.proofs.DateTimesPlaces.{by_test, at_front}
 
@@ -27,7 +26,7 @@ abbrev right_year : ℕ → ℕ → Bool
 right_year first count = if (eqb first 48) (eqb count 4) (leb 4 count)
 
 -- what is read of a year whose digits start at `at`
-abbrev pub year_is : Bool → Bool → List ℕ → ℕ → Year
+abbrev pub year_is : Bool → Bool → List ℕ → ℕ → YearAt
 year_is minus formed ds at = record { minus = minus; formed = formed; number = kept (number ds); end = at + length ds }
 
 year-from : (s : List ℕ) (minus : Bool) (at : ℕ) → year_from s minus at ≡ year_is minus (right_year (get_or s at 0) (length (run (drop at s)))) (run (drop at s)) at
@@ -92,14 +91,14 @@ year-sound s h = by (eqb (get_or s 0 0) 45) refl
         let u : List ℕ = drop at s in
         let ds : List ℕ = run u in
         let y = year_of_lem s t e in
-        let rest-is : drop (length ds) u ≡ drop (year_of s).end s = drop-drop (length ds) at s ∙ ap (λ (y : Year). drop y.end s) (sym y) in
+        let rest-is : drop (length ds) u ≡ drop (year_of s).end s = drop-drop (length ds) at s ∙ ap (λ (y : YearAt). drop y.end s) (sym y) in
         record {
           minus = t;
           digits = ds;
-          formed = formed-year (get_or s at 0) ds (run-digits u) (year-at s at) (ap (λ (y : Year). y.formed) (sym y) ∙ h);
+          formed = formed-year (get_or s at 0) ds (run-digits u) (year-at s at) (ap (λ (y : YearAt). y.formed) (sym y) ∙ h);
           front = minus-front s t e ∙ ap (λ (l : List ℕ). minus_text t ++ l)
               (run-front u) ∙ sym (append_assoc (minus_text t) (text ds) (drop (length ds) u)) ∙ ap (λ (l : List ℕ). minus_text t ++ text ds ++ l) rest-is;
-          number_is = ap (λ (y : Year). y.number) y;
+          number_is = ap (λ (y : YearAt). y.number) y;
         }
 
 some-digit : (ds : List ℕ) → FormedYear ds → 0 < length ds

@@ -11,8 +11,9 @@ use borrow.Author.Tests.{eqb-true, leb-true, le-ltb, ltb-false}
 use Rattle.wire.specs.Bytes.{if}
 use Rattle.sedna_digits.specs.Digits.{two_digits_at}
 use Rattle.sedna_instant.specs.DateTimes.{offset_at, zone_at}
-use Rattle.sedna_instant.specs.declared.fields.ZoneFound.TheVariants as read
-use Rattle.sedna_instant.specs.declared.fields.ZoneFound as reads
+use Rattle.std.specs.Prelude.{Result, Ok, Err}
+use Rattle.wire.specs.declared.Refusal.{Refusal}
+use Rattle.wire.specs.declared.Refusal.TheVariants.{NotOfForm, OutOfRange}
 use Rattle.sedna_value_laws.specs.DateTimeTexts.{Zone, FormedZone, two_digits, zone_text}
 use Rattle.sedna_value_laws.proofs.DateTimesPlaces.{unless, two-read, byte_by_byte, marked}
 
@@ -55,7 +56,7 @@ offset-sound u h =
           byte_by_byte u 0 6 (omega arith) ∙ sym (λ i. front i ++ behind i ++ sym last i);
     }
 
-zone_unless_malformed : (u : List ℕ) → ZoneRead u ⊎ (zone_at u 0 ≡ read.Malformed)
+zone_unless_malformed : (u : List ℕ) → ZoneRead u ⊎ (zone_at u 0 ≡ Err NotOfForm)
 unfolding zone_at
 zone_unless_malformed u =
     unless (leb (length u) 0) _ _ _ (λ e. inl (none (leb-true (length u) 0 e))) λ e.
@@ -76,19 +77,19 @@ zone_unless_malformed u =
     utc : get_or u 0 0 ≡ 90 → 1 ≡ length u → ZoneRead u
     utc z l = record { zone = Zone.utc; formed = tt; whole = byte_by_byte u 0 1 (omega arith) ∙ (λ i. z i ∷ drop_of_length-le u {i = 1} (omega arith) i) }
 
-pub zone-sound : (u : List ℕ) → (zone_at u 0 ≡ read.Malformed → ⊥) → ZoneRead u
+pub zone-sound : (u : List ℕ) → (zone_at u 0 ≡ Err NotOfForm → ⊥) → ZoneRead u
 zone-sound u n = by (zone_unless_malformed u)
   where
-    by : ZoneRead u ⊎ (zone_at u 0 ≡ read.Malformed) → ZoneRead u
+    by : ZoneRead u ⊎ (zone_at u 0 ≡ Err NotOfForm) → ZoneRead u
     by (inl z) = z
     by (inr e) = absurd (n e)
 
 -- what is read of a zone
-abbrev pub zone_of : Zone → reads.ZoneFound
-zone_of Zone.missing = read.Missing
-zone_of Zone.utc = read.Shift 86400
-zone_of (Zone.ahead hours minutes) = read.Shift (86400 - (hours * 60 + minutes) * 60)
-zone_of (Zone.behind hours minutes) = read.Shift (86400 + (hours * 60 + minutes) * 60)
+abbrev pub zone_of : Zone → Result ℕ Refusal
+zone_of Zone.missing = Err OutOfRange
+zone_of Zone.utc = Ok 86400
+zone_of (Zone.ahead hours minutes) = Ok (86400 - (hours * 60 + minutes) * 60)
+zone_of (Zone.behind hours minutes) = Ok (86400 + (hours * 60 + minutes) * 60)
 
 offset_read : (mark hours minutes : ℕ) → minutes ≤ 59 → hours * 60 + minutes ≤ 840 → offset_at (mark ∷ two_digits hours ++ 58 ∷ two_digits minutes) 1 ≡ hours * 60 + minutes
 unfolding offset_at two_digits_at

@@ -1,4 +1,5 @@
 -- A double's answer is one rounded division, and -0 is negative zero.
+use Rattle.std.specs.Prelude.{Ok}
 use mathlib.Core.Bool.{true, false}
 use mathlib.Core.Path.{◌≡◌, sym, ap, ◌∙◌}
 use Prim.Native.Nat.{ℕ, ◌^◌, ◌≤◌}
@@ -12,7 +13,6 @@ use lib.ListN.{length}
 use Rattle.wire.specs.Every.{Every}
 use Rattle.sedna_digits.specs.Numbers.{number}
 use Rattle.sedna_value.specs.declared.Value.TheVariants.{Double}
-use Rattle.sedna_value.specs.declared.Valued.TheVariants as valued
 use Rattle.sedna_value_laws.specs.Types.{double}
 use Rattle.sedna_value.specs.Values.{value_of}
 use Rattle.sedna_value_laws.specs.Division.{divided, plainly, Division}
@@ -23,11 +23,11 @@ use Rattle.sedna_value_laws.proofs.Doubles.{decimal-few}
 use Rattle.sedna_value_laws.proofs.Rounding.{rounded, power_above, decimal_rounded}
 
 texts : (sign : Sign) (d : Mantissa) → Formed (plainly sign d) → length (digits d) ≤ 15
-    → value_of 1 double (written (plainly sign d)) ≡ valued.Is (Double (negated (is_minus sign) (divided (number (digits d)) (10 ^ places d))))
+    → value_of 1 double (written (plainly sign d)) ≡ Ok (Double (negated (is_minus sign) (divided (number (digits d)) (10 ^ places d))))
 unfolding value_of
 texts sign d formed few =
     decimal-few sign d formed.0 formed.1 few
-    ∙ ap (λ (x : Float). valued.Is (Double (negated (is_minus sign) x))) (sym (decimal_rounded d formed.1 few).once)
+    ∙ ap (λ (x : Float). Ok (Double (negated (is_minus sign) x))) (sym (decimal_rounded d formed.1 few).once)
 
 zero_rounded : (k : ℕ) → round binary64 false 0 (10 ^ k) ≡ fin false 0 (pos 0)
 unfolding round
@@ -42,5 +42,5 @@ unfolding value_of
 division = record {
   numbers = λ n k h l. rounded n k (omega arith) l;
   texts = texts;
-  minus_zero = λ d formed few zeros. decimal-few Sign.minus d formed.0 formed.1 few ∙ ap (λ (x : Float). valued.Is (Double x)) (zero-meant d zeros);
+  minus_zero = λ d formed few zeros. decimal-few Sign.minus d formed.0 formed.1 few ∙ ap (λ (x : Float). Ok (Double x)) (zero-meant d zeros);
 }

@@ -1,4 +1,5 @@
 -- A double's text is read as what it means.
+use Rattle.std.specs.Prelude.{Ok, Err}
 use mathlib.Core.Bool.{Bool, true, false}
 use mathlib.Core.List.{List, [], ◌∷◌, ◌++◌, append_assoc}
 use mathlib.Core.Logic.{◌⊎◌, inl, inr}
@@ -15,7 +16,6 @@ use Rattle.sedna_digits.specs.Numbers.{AreDigits, text}
 use Rattle.sedna_digits.specs.Digits.{is_digit, run, behind_sign}
 use Rattle.sedna_value.specs.declared.Value.{Value}
 use Rattle.sedna_value.specs.declared.Value.TheVariants.{Double}
-use Rattle.sedna_value.specs.declared.Valued.TheVariants as valued
 use Rattle.sedna_value.specs.Doubles.{decimal_at, special_of, exponent_at, decided_of, double_of}
 use Rattle.wire.proofs.Branches as Branches
 use Rattle.sedna_value_laws.specs.Signs.{Sign, sign_text, is_minus}
@@ -30,7 +30,7 @@ use Rattle.sedna_value_laws.proofs.DoublesSpecial.{special_back}
 
 -- a text of its form, or none
 abbrev Sound : List ℕ → Type 0
-Sound s = ((t : DoubleText) × Formed t × (s ≡ written t)) ⊎ (double_of s ≡ valued.Refused NotOfForm)
+Sound s = ((t : DoubleText) × Formed t × (s ≡ written t)) ⊎ (double_of s ≡ Err NotOfForm)
 
 -- ---- what is not refused with 15 is of its form
 
@@ -117,7 +117,7 @@ module _ (sign : Sign) (d : Mantissa) (some : 0 < length (digits d)) (ok : AreDi
       alone sign d [] ok (ends d [] refl refl) s (regroup Exponent.none) (read-sign Exponent.none) some refl
       ∙ ap (λ (t : Bool). decided_of t (decimal_of (length (sign_text sign)) d)) minus
 
-  pub decimal-few : length (digits d) ≤ 15 → double_of (written (DoubleText.decimal sign d Exponent.none)) ≡ valued.Is (Double (meant sign d))
+  pub decimal-few : length (digits d) ≤ 15 → double_of (written (DoubleText.decimal sign d Exponent.none)) ≡ Ok (Double (meant sign d))
   decimal-few few = decided ∙ fits sign d (length (sign_text sign)) ok few
 
   decimal_alone : Answer Kind.double (DoubleText.decimal sign d Exponent.none) (double_of (written (DoubleText.decimal sign d Exponent.none)))
@@ -134,7 +134,7 @@ module _ (sign : Sign) (d : Mantissa) (some : 0 < length (digits d)) (ok : AreDi
 
   -- an exponent behind them
   decimal-powered : (e : Exponent) (b : ℕ) (sg : Sign) (ds : List ℕ) → exponent_text e ≡ b ∷ (sign_text sg ++ text ds) → Letter b → Stops d (exponent_text e)
-      → 0 < length ds → AreDigits ds → double_of (written (DoubleText.decimal sign d e)) ≡ valued.Refused OutOfRange
+      → 0 < length ds → AreDigits ds → double_of (written (DoubleText.decimal sign d e)) ≡ Err OutOfRange
   decimal-powered e b sg ds is letter stops any fine =
       more sign d (exponent_text e) ok stops (written (DoubleText.decimal sign d e)) (regroup e) (read-sign e) some (rw is (omega arith))
       ∙ rw is (rw (exponent_forth (sign_text sign ++ mantissa_text d) b sg ds (end_of sign d) (end_is sign d) letter any fine))

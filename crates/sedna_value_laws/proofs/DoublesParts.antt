@@ -1,4 +1,5 @@
 -- A double's text part by part: what is answered where no digit stands, where more follows the digits, and where they stand alone.
+use Rattle.std.specs.Prelude.{Ok, Err}
 use mathlib.Core.List.{List, ◌∷◌, ◌++◌}
 use mathlib.Core.Path.{◌≡◌, refl, sym, ap}
 use Prim.Native.Nat.{ℕ, ◌+◌, ◌^◌, ◌<◌, ◌≤◌}
@@ -13,7 +14,6 @@ use Rattle.sedna_digits.specs.Digits.{behind_sign}
 use Rattle.sedna_digits.proofs.Numbers.{number_append}
 use Rattle.sedna_digits.proofs.Runs.{kept-digits}
 use Rattle.sedna_value.specs.declared.Value.TheVariants.{Double}
-use Rattle.sedna_value.specs.declared.Valued.TheVariants as valued
 use Rattle.sedna_value.specs.Doubles.{decimal_at, special_of, exponent_at, decided_of, quotient, double_of}
 use Rattle.sedna_value_laws.specs.Signs.{Sign, sign_text, is_minus}
 use Rattle.sedna_value_laws.specs.DoubleTexts.{Mantissa, mantissa_text, digits, places, meant}
@@ -38,10 +38,10 @@ divides at (Mantissa.pointed before behind) ok few =
     (rw (kept-digits before (front-digits before behind ok) (omega arith), kept-digits behind (back_digits before behind ok) (omega arith)) (sym (number_append before behind)))
 
 module _ (sign : Sign) (d : Mantissa) (at : ℕ) (ok : AreDigits (digits d)) where
-  pub fits : length (digits d) ≤ 15 → decided_of (is_minus sign) (decimal_of at d) ≡ valued.Is (Double (meant sign d))
+  pub fits : length (digits d) ≤ 15 → decided_of (is_minus sign) (decimal_of at d) ≡ Ok (Double (meant sign d))
   fits few = rw (count-digits at d, le-ltb 15 (length (digits d)) few, divides at d ok few, (decimal_rounded d ok few).once)
 
-  pub overlong : 15 < length (digits d) → decided_of (is_minus sign) (decimal_of at d) ≡ valued.Refused OutOfRange
+  pub overlong : 15 < length (digits d) → decided_of (is_minus sign) (decimal_of at d) ≡ Err OutOfRange
   overlong many = rw (count-digits at d, lt-ltb 15 (length (digits d)) many)
 
 -- where the digits behind a sign end
@@ -64,7 +64,7 @@ module _ (sign : Sign) (d : Mantissa) (rest : List ℕ) (ok : AreDigits (digits 
   unfolding double_of
   no-digits none = rw (found, count-digits (length (sign_text sign)) d, none)
 
-  pub more : 0 < length (digits d) → 0 < length rest → double_of s ≡ if (exponent_at s (end_of sign d)) (valued.Refused OutOfRange) (valued.Refused NotOfForm)
+  pub more : 0 < length (digits d) → 0 < length rest → double_of s ≡ if (exponent_at s (end_of sign d)) (Err OutOfRange) (Err NotOfForm)
   unfolding double_of
   more some behind =
       rw (found, count-digits (length (sign_text sign)) d, ne_eqb (length (digits d)) 0 (omega arith), lt-ltb (end_of sign d) (length s) (omega (arith, long)))

@@ -1,4 +1,5 @@
 -- INF, -INF and NaN, and no other text without a digit.
+use Rattle.std.specs.Prelude.{Err}
 use mathlib.Core.Bool.{Bool, true, false}
 use mathlib.Core.List.{List, [], ◌∷◌}
 use mathlib.Core.Logic.{◌⊎◌, inl, inr}
@@ -10,7 +11,6 @@ use lib.ListN.{length, get_or}
 use borrow.Author.Tests.{ne_eqb, eqb-true}
 use Rattle.wire.specs.Bytes.{if}
 use Rattle.wire.specs.declared.Refusal.TheVariants.{NotOfForm}
-use Rattle.sedna_value.specs.declared.Valued.TheVariants as valued
 use Rattle.sedna_value.specs.Doubles.{nan_at, inf_at, special_of}
 use Rattle.sedna_value_laws.specs.DoubleTexts.{DoubleText, written, Formed}
 use Rattle.wire.proofs.Branches.{apart, both, one_of}
@@ -41,10 +41,10 @@ named (a ∷ b ∷ c ∷ d ∷ f ∷ s) e =
     let no : false ≡ true = rw (ne_eqb n 3 (omega arith), ne_eqb n 4 (omega arith)) at e in
     apart (cc)
 
-pub special_back : (s : List ℕ) → ((t : DoubleText) × Formed t × (s ≡ written t)) ⊎ (special_of s ≡ valued.Refused NotOfForm)
+pub special_back : (s : List ℕ) → ((t : DoubleText) × Formed t × (s ≡ written t)) ⊎ (special_of s ≡ Err NotOfForm)
 unfolding special_of
 special_back s = by (test s) refl
   where
-    by : (t : Bool) → test s ≡ t → ((t : DoubleText) × Formed t × (s ≡ written t)) ⊎ (special_of s ≡ valued.Refused NotOfForm)
+    by : (t : Bool) → test s ≡ t → ((t : DoubleText) × Formed t × (s ≡ written t)) ⊎ (special_of s ≡ Err NotOfForm)
     by true e = inl (named s e)
     by false e = inr (rw e)

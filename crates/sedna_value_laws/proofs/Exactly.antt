@@ -1,4 +1,5 @@
 -- From readers of each kind to the value of any text.
+use Rattle.std.specs.Prelude.{Result, Ok, Err}
 use mathlib.Core.Bool.{Bool, true, false}
 use mathlib.Core.List.{List}
 use mathlib.Core.Logic.{◌↔◌, ◌⊎◌, inl, inr}
@@ -10,8 +11,6 @@ use Rattle.wire.specs.Refusals.{number_of}
 use Rattle.wire.specs.declared.Refusal.{Refusal}
 use Rattle.wire.specs.declared.Refusal.TheVariants.{NotOfForm, OutOfRange}
 use Rattle.sedna_value.specs.declared.Value.{Value}
-use Rattle.sedna_value.specs.declared.Valued.{Valued}
-use Rattle.sedna_value.specs.declared.Valued.TheVariants as valued
 use Rattle.sedna_value.specs.Values.{value_of}
 use Rattle.sedna_value_laws.specs.Exactly.{Literal, Refuses, Valuing}
 use Rattle.sedna_value_laws.specs.Texts.{Kind, Text, kind_of, written, Formed, Means, Excluded}
@@ -22,24 +21,24 @@ use Rattle.sedna_value_laws.proofs.ByKind.{read_by, the_kind, kind-read, unnamed
 use Rattle.sedna_value_laws.proofs.Reader.{Answer, Reader}
 
 -- an answer says one thing
-meaning : {k : Kind} {t : Text k} {v : Value} {a : Valued} → a ≡ valued.Is v → Answer k t a → Means k t v
+meaning : {k : Kind} {t : Text k} {v : Value} {a : Result Value Refusal} → a ≡ Ok v → Answer k t a → Means k t v
 meaning {k} {t} {v} e (Answer.is w m) = subst (λ (x : Value). Means k t x) (cc) m
 meaning e (Answer.excluded b) = apart (cc)
 
-out : {k : Kind} {t : Text k} {a : Valued} → a ≡ valued.Refused OutOfRange → Answer k t a → Excluded k t
+out : {k : Kind} {t : Text k} {a : Result Value Refusal} → a ≡ Err OutOfRange → Answer k t a → Excluded k t
 out e (Answer.is w m) = apart (cc)
 out e (Answer.excluded b) = b
 
-never : {P : Type 0} {k : Kind} {t : Text k} {a : Valued} → a ≡ valued.Refused NotOfForm → Answer k t a → P
+never : {P : Type 0} {k : Kind} {t : Text k} {a : Result Value Refusal} → a ≡ Err NotOfForm → Answer k t a → P
 never e (Answer.is w m) = apart (cc)
 never e (Answer.excluded b) = apart (cc)
 
 -- what a text that means v, or nothing in range, is read as
-is_one : {k : Kind} {read : List ℕ → Valued} → Reader k read → {t : Text k} {v : Value} {a : Valued} → Means k t v → Answer k t a → a ≡ valued.Is v
-is_one r {t} {v} m (Answer.is w n) = ap valued.Is (r.one_value t w v n m)
+is_one : {k : Kind} {read : List ℕ → Result Value Refusal} → Reader k read → {t : Text k} {v : Value} {a : Result Value Refusal} → Means k t v → Answer k t a → a ≡ Ok v
+is_one r {t} {v} m (Answer.is w n) = ap Ok (r.one_value t w v n m)
 is_one r {t} {v} m (Answer.excluded b) = absurd (r.apart t v m b)
 
-is_out : {k : Kind} {read : List ℕ → Valued} → Reader k read → {t : Text k} {a : Valued} → Excluded k t → Answer k t a → a ≡ valued.Refused OutOfRange
+is_out : {k : Kind} {read : List ℕ → Result Value Refusal} → Reader k read → {t : Text k} {a : Result Value Refusal} → Excluded k t → Answer k t a → a ≡ Err OutOfRange
 is_out r {t} b (Answer.is w n) = absurd (r.apart t w n b)
 is_out r b (Answer.excluded c) = refl
 
@@ -47,43 +46,43 @@ is_out r b (Answer.excluded c) = refl
 abbrev Written : Kind → List ℕ → Type 0
 Written k s = (t : Text k) × Formed k t × (s ≡ written k t)
 
-answer : {k : Kind} {read : List ℕ → Valued} → Reader k read → (s : List ℕ) (w : Written k s) → Answer k w.0 (read s)
+answer : {k : Kind} {read : List ℕ → Result Value Refusal} → Reader k read → (s : List ℕ) (w : Written k s) → Answer k w.0 (read s)
 answer {k} {read} r s w = subst (λ (x : List ℕ). Answer k w.0 (read x)) (sym w.2) (r.complete w.0 w.1)
 
 -- a text that is not refused with 15 has the form
-form : {k : Kind} {read : List ℕ → Valued} → Reader k read → (s : List ℕ) → ¬ (read s ≡ valued.Refused NotOfForm) → Written k s
+form : {k : Kind} {read : List ℕ → Result Value Refusal} → Reader k read → (s : List ℕ) → ¬ (read s ≡ Err NotOfForm) → Written k s
 form {k} {read} r s h = by (r.sound s)
   where
-    by : Written k s ⊎ (read s ≡ valued.Refused NotOfForm) → Written k s
+    by : Written k s ⊎ (read s ≡ Err NotOfForm) → Written k s
     by (inl w) = w
     by (inr e) = absurd (h e)
 
 -- 15 where there is no such text
-no-form : {k : Kind} {read : List ℕ → Valued} → Reader k read → (s : List ℕ) → ¬ Written k s → read s ≡ valued.Refused NotOfForm
+no-form : {k : Kind} {read : List ℕ → Result Value Refusal} → Reader k read → (s : List ℕ) → ¬ Written k s → read s ≡ Err NotOfForm
 no-form {k} {read} r s h = by (r.sound s)
   where
-    by : Written k s ⊎ (read s ≡ valued.Refused NotOfForm) → read s ≡ valued.Refused NotOfForm
+    by : Written k s ⊎ (read s ≡ Err NotOfForm) → read s ≡ Err NotOfForm
     by (inl w) = absurd (h w)
     by (inr e) = e
 
 -- and no other refusal than 15 and 16
-fifteen_or_sixteen : {k : Kind} {read : List ℕ → Valued} → Reader k read → (s : List ℕ) (x : Refusal) → read s ≡ valued.Refused x → (x ≡ NotOfForm) ⊎ (x ≡ OutOfRange)
+fifteen_or_sixteen : {k : Kind} {read : List ℕ → Result Value Refusal} → Reader k read → (s : List ℕ) (x : Refusal) → read s ≡ Err x → (x ≡ NotOfForm) ⊎ (x ≡ OutOfRange)
 fifteen_or_sixteen {k} {read} r s x e = by (r.sound s)
   where
-    out_of : {t : Text k} {a : Valued} → a ≡ valued.Refused x → Answer k t a → (x ≡ NotOfForm) ⊎ (x ≡ OutOfRange)
+    out_of : {t : Text k} {a : Result Value Refusal} → a ≡ Err x → Answer k t a → (x ≡ NotOfForm) ⊎ (x ≡ OutOfRange)
     out_of p (Answer.is w m) = apart (cc)
     out_of p (Answer.excluded b) = inr (cc)
 
-    by : Written k s ⊎ (read s ≡ valued.Refused NotOfForm) → (x ≡ NotOfForm) ⊎ (x ≡ OutOfRange)
+    by : Written k s ⊎ (read s ≡ Err NotOfForm) → (x ≡ NotOfForm) ⊎ (x ≡ OutOfRange)
     by (inl w) = out_of e (answer r s w)
     by (inr q) = inl (cc)
 
 -- the same by the refusals themselves
 record ByRefusal (class type : ℕ) (s : List ℕ) : Type 0 where
-  accepted : (v : Value) → (value_of class type s ≡ valued.Is v) ↔ ((t : Literal class type s) × Means t.kind t.text v)
-  fifteen : (value_of class type s ≡ valued.Refused NotOfForm) ↔ (¬ Literal class type s)
-  sixteen : (value_of class type s ≡ valued.Refused OutOfRange) ↔ ((t : Literal class type s) × Excluded t.kind t.text)
-  either : (r : Refusal) → value_of class type s ≡ valued.Refused r → (r ≡ NotOfForm) ⊎ (r ≡ OutOfRange)
+  accepted : (v : Value) → (value_of class type s ≡ Ok v) ↔ ((t : Literal class type s) × Means t.kind t.text v)
+  fifteen : (value_of class type s ≡ Err NotOfForm) ↔ (¬ Literal class type s)
+  sixteen : (value_of class type s ≡ Err OutOfRange) ↔ ((t : Literal class type s) × Excluded t.kind t.text)
+  either : (r : Refusal) → value_of class type s ≡ Err r → (r ≡ NotOfForm) ⊎ (r ≡ OutOfRange)
 
 -- and by their numbers
 numbered : {class type : ℕ} {s : List ℕ} → ByRefusal class type s → Valuing class type s
@@ -94,13 +93,13 @@ numbered {class} {type} {s} j = record {
   either = λ n r. by r.number (j.either r.refusal r.refused);
 }
   where
-    of : (r : Refuses class type s 15) → (r.refusal ≡ NotOfForm) ⊎ (r.refusal ≡ OutOfRange) → value_of class type s ≡ valued.Refused NotOfForm
-    of r (inl e) = r.refused ∙ ap valued.Refused e
+    of : (r : Refuses class type s 15) → (r.refusal ≡ NotOfForm) ⊎ (r.refusal ≡ OutOfRange) → value_of class type s ≡ Err NotOfForm
+    of r (inl e) = r.refused ∙ ap Err e
     of r (inr e) = let n : number_of r.refusal ≡ 16 = ap number_of e in absurd (omega (arith, r.number))
 
-    out_of : (r : Refuses class type s 16) → (r.refusal ≡ NotOfForm) ⊎ (r.refusal ≡ OutOfRange) → value_of class type s ≡ valued.Refused OutOfRange
+    out_of : (r : Refuses class type s 16) → (r.refusal ≡ NotOfForm) ⊎ (r.refusal ≡ OutOfRange) → value_of class type s ≡ Err OutOfRange
     out_of r (inl e) = let n : number_of r.refusal ≡ 15 = ap number_of e in absurd (omega (arith, r.number))
-    out_of r (inr e) = r.refused ∙ ap valued.Refused e
+    out_of r (inr e) = r.refused ∙ ap Err e
 
     by : {x : Refusal} {n : ℕ} → number_of x ≡ n → (x ≡ NotOfForm) ⊎ (x ≡ OutOfRange) → (n ≡ 15) ⊎ (n ≡ 16)
     by e (inl f) = inl (sym e ∙ ap number_of f)
@@ -140,7 +139,7 @@ named_exact readers n s k e =
     }
 
 -- where nothing of its form can be, and 15 is the answer
-bare : (class n : ℕ) (s : List ℕ) → ¬ Literal class n s → value_of class n s ≡ valued.Refused NotOfForm → ByRefusal class n s
+bare : (class n : ℕ) (s : List ℕ) → ¬ Literal class n s → value_of class n s ≡ Err NotOfForm → ByRefusal class n s
 bare class n s h e = record {
   accepted = λ v. (λ p. apart (cc), λ t. absurd (h t.0));
   fifteen = (λ p. h, λ q. e);

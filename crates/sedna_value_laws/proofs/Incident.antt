@@ -1,4 +1,6 @@
 -- The incident: on any one day, 09:00:00+02:00 is earlier than 08:30:00Z.
+use Rattle.std.specs.Prelude.{Result, Ok}
+use Rattle.wire.specs.declared.Refusal.{Refusal}
 use mathlib.Core.Bool.{Bool, true, false, cond}
 use mathlib.Core.List.{List, []}
 use mathlib.Core.Logic.{inl}
@@ -12,12 +14,10 @@ use lib.ListN.{length}
 use lib.Signed.{◌<ℤ◌, lt_z_yes}
 use Rattle.wire.proofs.Branches.{apart}
 use Rattle.sedna_digits.specs.Numbers.{number}
-use Rattle.sedna_instant.specs.declared.Order.TheVariants.{Earlier}
+use Rattle.std.specs.declared.cmp.Ordering.TheVariants.{Less}
 use Rattle.sedna_instant.specs.Calendar.{days_before}
 use Rattle.sedna_instant.specs.DateTimes.{instant_of}
 use Rattle.sedna_value.specs.declared.Value.{Value}
-use Rattle.sedna_value.specs.declared.Valued.{Valued}
-use Rattle.sedna_value.specs.declared.Valued.TheVariants as valued
 use Rattle.sedna_value.specs.Values.{from_dated, value_of}
 use Rattle.sedna_value_laws.specs.DateTimeTexts as date-times
 use Rattle.sedna_value_laws.specs.DateTimeTexts.{Zone, DateTime, Formed}
@@ -27,12 +27,12 @@ use Rattle.sedna_value_laws.proofs.Order.{instants}
 use Rattle.sedna_value_laws.proofs.Reader.{Answer, Reader}
 
 -- what is read of a text that is of its form, and nothing that is listed under 16
-pub record Read (t : DateTime) (a : Valued) : Type 0 where
+pub record Read (t : DateTime) (a : Result Value Refusal) : Type 0 where
   pub value : Value
-  pub is : a ≡ valued.Is value
+  pub is : a ≡ Ok value
   pub means : date-times.Means t value
 
-pub read_as : {t : DateTime} {a : Valued} → ¬ date-times.Excluded t → Answer Kind.instant t a → Read t a
+pub read_as : {t : DateTime} {a : Result Value Refusal} → ¬ date-times.Excluded t → Answer Kind.instant t a → Read t a
 read_as h (Answer.is v m) = record { value = v; is = refl; means = m }
 read_as h (Answer.excluded b) = absurd (h b)
 
@@ -93,9 +93,9 @@ incident r year month day formed lo hi =
     record {
       expires = a.means.instant;
       now = b.means.instant;
-      expiry_read = a.is ∙ ap valued.Is a.means.is;
-      now_read = b.is ∙ ap valued.Is b.means.is;
-      earlier = (instants a.means.instant b.means.instant Earlier).1 (inl
+      expiry_read = a.is ∙ ap Ok a.means.is;
+      now_read = b.is ∙ ap Ok b.means.is;
+      earlier = (instants a.means.instant b.means.instant Less).1 (inl
           (rw (a.means.seconds_are, b.means.seconds_are) (sooner (days_before (number year) month day) (days_before 1970 1 1 * 86400))));
       ninety_minutes = rw (a.means.seconds_are, b.means.seconds_are) (apart_by (days_before (number year) month day) (days_before 1970 1 1 * 86400));
     }

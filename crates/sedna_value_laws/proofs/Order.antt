@@ -11,35 +11,35 @@ use lib.Signed.{lt_z, ◌≤ℤ◌, ◌<ℤ◌, lt_z_yes, <ℤ-≤ℤ_trans, <�
 use Rattle.wire.specs.Bytes.{if}
 use Rattle.wire.proofs.Branches.{apart}
 use Rattle.sedna_instant.specs.declared.Instant.{Instant}
-use Rattle.sedna_instant.specs.declared.Order.{Order}
-use Rattle.sedna_instant.specs.declared.Order.TheVariants.{Earlier, Same, Later}
+use Rattle.std.specs.declared.cmp.Ordering.{Ordering}
+use Rattle.std.specs.declared.cmp.Ordering.TheVariants.{Less, Equal, Greater}
 use Rattle.sedna_instant.specs.Orders.{ordered}
 use Rattle.sedna_value_laws.specs.Order.{point, Proper, Before, Ordered, Strict}
 
 -- ---- an order, whatever it is of: what holds of a and b where a lies so to b
 
-abbrev pub Lies : {A : Type 0} → (A → A → Type 0) → A → A → Order → Type 0
-Lies first a b Earlier = first a b
-Lies first a b Same = a ≡ b
-Lies first a b Later = first b a
+abbrev pub Lies : {A : Type 0} → (A → A → Type 0) → A → A → Ordering → Type 0
+Lies first a b Less = first a b
+Lies first a b Equal = a ≡ b
+Lies first a b Greater = first b a
 
 -- where of two only one comes first, one order holds, so that each is exactly what it says
 module _ {A : Type 0} (first : A → A → Type 0) (one_way : (a b : A) → first a b → first b a → ⊥) (a b : A) where
   differ : (a b : A) → first a b → a ≡ b → ⊥
   differ a b p e = let q = subst (λ (x : A). first x b) e p in one_way b b q q
 
-  one_order : (o p : Order) → Lies first a b o → Lies first a b p → o ≡ p
-  one_order Earlier Earlier x y = refl
-  one_order Earlier Same x y = absurd (differ a b x y)
-  one_order Earlier Later x y = absurd (one_way a b x y)
-  one_order Same Earlier x y = absurd (differ a b y x)
-  one_order Same Same x y = refl
-  one_order Same Later x y = absurd (differ b a y (sym x))
-  one_order Later Earlier x y = absurd (one_way a b y x)
-  one_order Later Same x y = absurd (differ b a x (sym y))
-  one_order Later Later x y = refl
+  one_order : (o p : Ordering) → Lies first a b o → Lies first a b p → o ≡ p
+  one_order Less Less x y = refl
+  one_order Less Equal x y = absurd (differ a b x y)
+  one_order Less Greater x y = absurd (one_way a b x y)
+  one_order Equal Less x y = absurd (differ a b y x)
+  one_order Equal Equal x y = refl
+  one_order Equal Greater x y = absurd (differ b a y (sym x))
+  one_order Greater Less x y = absurd (one_way a b y x)
+  one_order Greater Equal x y = absurd (differ b a x (sym y))
+  one_order Greater Greater x y = refl
 
-  exactly : (o : Order) → Lies first a b o → (p : Order) → (o ≡ p) ↔ Lies first a b p
+  exactly : (o : Ordering) → Lies first a b o → (p : Ordering) → (o ≡ p) ↔ Lies first a b p
   exactly o x p = (λ e. subst (Lies first a b) e x, one_order o p x)
 
 -- ---- by the seconds, then by the nanoseconds
@@ -59,7 +59,7 @@ unfolding ordered
 order_is a b = by (lt_z a.seconds b.seconds) refl (lt_z b.seconds a.seconds) refl (ltb a.nanos b.nanos) refl (ltb b.nanos a.nanos) refl
   where
     by : (p : Bool) → lt_z a.seconds b.seconds ≡ p → (q : Bool) → lt_z b.seconds a.seconds ≡ q → (m : Bool) → ltb a.nanos b.nanos ≡ m
-        → (n : Bool) → ltb b.nanos a.nanos ≡ n → Lies Before a b (if p Earlier (if q Later (if m Earlier (if n Later Same))))
+        → (n : Bool) → ltb b.nanos a.nanos ≡ n → Lies Before a b (if p Less (if q Greater (if m Less (if n Greater Equal))))
     by true e q f m g n h = inl (below _ _ e)
     by false e true f m g n h = inl (below _ _ f)
     by false e false f true g n h = inr (level _ _ e f, ltb-true _ _ g)
@@ -91,7 +91,7 @@ never_itself a (inl p) = <ℤ_irrefl p
 never_itself a (inr (e, p)) = omega arith
 
 -- the order is exactly how one lies to the other
-pub instants : (a b : Instant) (o : Order) → (ordered a b ≡ o) ↔ Lies Before a b o
+pub instants : (a b : Instant) (o : Ordering) → (ordered a b ≡ o) ↔ Lies Before a b o
 instants a b = exactly Before (λ x y p q. never_itself x (before_trans x y x p q)) a b (ordered a b) (order_is a b)
 
 -- ---- points in time
@@ -131,33 +131,33 @@ before-point : (a b : Instant) → Proper a → Proper b → Before a b → poin
 before-point a b g h (inl p) = by_seconds a.seconds b.seconds a.nanos b.nanos g h p
 before-point a b g h (inr (e, l)) = subst (λ (z : ℤ). point a <ℤ point_of z b.nanos) e (by_nanos a.seconds a.nanos b.nanos g h l)
 
-points : (a b : Instant) → Proper a → Proper b → (o : Order) → (ordered a b ≡ o) ↔ Lies ◌<ℤ◌ (point a) (point b) o
+points : (a b : Instant) → Proper a → Proper b → (o : Ordering) → (ordered a b ≡ o) ↔ Lies ◌<ℤ◌ (point a) (point b) o
 points a b g h = exactly ◌<ℤ◌ (λ x y p q. <ℤ_irrefl (<ℤ-trans p q)) (point a) (point b) (ordered a b) (lies (ordered a b) (order_is a b))
   where
-    lies : (o : Order) → Lies Before a b o → Lies ◌<ℤ◌ (point a) (point b) o
-    lies Earlier p = before-point a b g h p
-    lies Same e = ap point e
-    lies Later p = before-point b a h g p
+    lies : (o : Ordering) → Lies Before a b o → Lies ◌<ℤ◌ (point a) (point b) o
+    lies Less p = before-point a b g h p
+    lies Equal e = ap point e
+    lies Greater p = before-point b a h g p
 
 -- ---- what is stated
 
 pub in_order : (a b : Instant) → Ordered a b
 in_order a b = record {
-  earlier = λ g h. points a b g h Earlier;
-  same = λ g h. points a b g h Same;
-  later = λ g h. points a b g h Later;
-  both = instants a b Same;
-  turned = (λ e. (instants b a Later).1 ((instants a b Earlier).0 e), λ e. (instants a b Earlier).1 ((instants b a Later).0 e));
+  earlier = λ g h. points a b g h Less;
+  same = λ g h. points a b g h Equal;
+  later = λ g h. points a b g h Greater;
+  both = instants a b Equal;
+  turned = (λ e. (instants b a Greater).1 ((instants a b Less).0 e), λ e. (instants a b Less).1 ((instants b a Greater).0 e));
 }
 
 pub strict : Strict
 strict = record {
-  irreflexive = λ a e. never_itself a ((instants a a Earlier).0 e);
+  irreflexive = λ a e. never_itself a ((instants a a Less).0 e);
   total = λ a b n. by a b n (ordered a b) (order_is a b);
-  transitive = λ a b c e f. (instants a c Earlier).1 (before_trans a b c ((instants a b Earlier).0 e) ((instants b c Earlier).0 f));
+  transitive = λ a b c e f. (instants a c Less).1 (before_trans a b c ((instants a b Less).0 e) ((instants b c Less).0 f));
 }
   where
-    by : (a b : Instant) → ¬ (a ≡ b) → (o : Order) → Lies Before a b o → (ordered a b ≡ Earlier) ⊎ (ordered b a ≡ Earlier)
-    by a b n Earlier p = inl ((instants a b Earlier).1 p)
-    by a b n Same p = absurd (n p)
-    by a b n Later p = inr ((instants b a Earlier).1 p)
+    by : (a b : Instant) → ¬ (a ≡ b) → (o : Ordering) → Lies Before a b o → (ordered a b ≡ Less) ⊎ (ordered b a ≡ Less)
+    by a b n Less p = inl ((instants a b Less).1 p)
+    by a b n Equal p = absurd (n p)
+    by a b n Greater p = inr ((instants b a Less).1 p)

@@ -1,4 +1,6 @@
 -- A whole number's text is read as what it means.
+use Rattle.std.specs.Prelude.{Option, Some, None}
+use Rattle.std.specs.Prelude.{Ok, Err}
 use mathlib.Core.Bool.{Bool, true, false, not}
 use mathlib.Core.Path.{◌≡◌, refl, sym, ap, subst, ◌∙◌}
 use mathlib.Core.List.{List, [], ◌++◌, append-nil}
@@ -19,10 +21,7 @@ use Rattle.sedna_digits.specs.Numbers.{signed, number, text}
 use Rattle.sedna_digits.specs.Digits.{kept, run, digits_at, behind_sign}
 use Rattle.sedna_digits.proofs.Kept.{kept_exact, kept_above}
 use Rattle.sedna_digits.proofs.Runs.{run-digits, run-front}
-use Rattle.sedna_value.specs.declared.wholes.Signed.{Signed}
 use Rattle.sedna_value.specs.declared.Value.TheVariants.{Whole}
-use Rattle.sedna_value.specs.declared.wholes.Signed.TheVariants as made
-use Rattle.sedna_value.specs.declared.Valued.TheVariants as valued
 use Rattle.sedna_value.specs.Wholes.{signed_of, least_of, greatest_of, ranged_of, whole_of}
 use Rattle.sedna_value.proofs.WholeRuns.{no_digit, more-behind, digits_alone}
 use Rattle.sedna_value_laws.specs.Types.{WholeType}
@@ -41,9 +40,9 @@ abbrev pub Far : ℤ → Type 0
 Far z = negsuc 9223372036854775807 ≤ℤ z → z ≤ℤ pos 9223372036854775807 → ⊥
 
 -- the number with its sign, or that it is beyond
-pub data Made (minus : Bool) (n : ℕ) : Signed → Type 0 where
-  is : Made minus n (made.Is (signed minus n))
-  overflow : Far (signed minus n) → Made minus n made.Overflow
+pub data Made (minus : Bool) (n : ℕ) : Option ℤ → Type 0 where
+  is : Made minus n (Some (signed minus n))
+  overflow : Far (signed minus n) → Made minus n None
 
 far : (minus : Bool) (n : ℕ) → 9223372036854775808 < n → Far (signed minus n)
 far true zero h from to = omega arith
@@ -85,7 +84,7 @@ made_of minus n = by (leb n 9223372036854775807) (eqb n 9223372036854775808) ref
 
 -- a text of its form, or none
 abbrev Sound : ℕ → List ℕ → Type 0
-Sound kind s = ((t : WholeText) × Formed t × (s ≡ written t)) ⊎ (whole_of kind s ≡ valued.Refused NotOfForm)
+Sound kind s = ((t : WholeText) × Formed t × (s ≡ written t)) ⊎ (whole_of kind s ≡ Err NotOfForm)
 
 -- ---- what is not refused with 15 is of its form
 
@@ -126,17 +125,17 @@ read kind t f =
 
 module _ (w : WholeType) (named : kind_of w.type ≡ some (Kind.whole w)) (t : WholeText) where
   -- a number of 64 bits is answered by its type's range
-  in_64_bits : Answer (Kind.whole w) t (ranged_of w.type (made.Is (meant t)))
+  in_64_bits : Answer (Kind.whole w) t (ranged_of w.type (Some (meant t)))
   in_64_bits = by (lt_z (meant t) (least_of w.type)) (lt_z (greatest_of w.type) (meant t)) refl refl
     where
       by : (low high : Bool) → lt_z (meant t) (least_of w.type) ≡ low → lt_z (greatest_of w.type) (meant t) ≡ high
-          → Answer (Kind.whole w) t (if low (valued.Refused OutOfRange) (if high (valued.Refused OutOfRange) (valued.Is (Whole (meant t)))))
+          → Answer (Kind.whole w) t (if low (Err OutOfRange) (if high (Err OutOfRange) (Ok (Whole (meant t)))))
       by true high e f = Answer.excluded (λ r. clash_ℤ (lt_z_yes (subst T (sym e) tt)) (above_least w named (meant t) r))
       by false true e f = Answer.excluded (λ r. clash_ℤ (lt_z_yes (subst T (sym f) tt)) (below_greatest w named (meant t) r))
       by false false e f =
           Answer.is (Whole (meant t)) (within w named (meant t) (lt_z_no (subst (λ (b : Bool). T (not b)) (sym e) tt)) (lt_z_no (subst (λ (b : Bool). T (not b)) (sym f) tt)), refl)
 
-  answer : (n : Signed) → Made (is_minus t.sign) (number t.digits) n → Answer (Kind.whole w) t (ranged_of w.type n)
+  answer : (n : Option ℤ) → Made (is_minus t.sign) (number t.digits) n → Answer (Kind.whole w) t (ranged_of w.type n)
   answer n Made.is = in_64_bits
   answer n (Made.overflow far) = Answer.excluded (λ r. far r.from r.to)
 

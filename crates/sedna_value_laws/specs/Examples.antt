@@ -1,11 +1,13 @@
 -- Texts and their answers, to be checked at sight: the places of document 02, request 1, that are easily got wrong.
+use Rattle.std.specs.Prelude.{Result, Ok, Err}
+use Rattle.wire.specs.declared.Refusal.{Refusal}
 use mathlib.Core.{Bool.Bool, Bool.true, Bool.false, List.List, List.[], List.◌∷◌, List.map, Path.◌≡◌}
 use Rattle.std.specs.Prelude.{ℕ}
 use Prim.Native.String.{String}
 use lib.{Ieee.Float, Ieee.fin, IntN.ℤ, IntN.pos, IntN.negsuc, IntN.neg_ℤ}
 use Rattle.wire.specs.Refusals.{number_of}
 use Rattle.sedna_value.specs.declared.Value.TheVariants.{Whole, At, Boolean, Double}
-use Rattle.sedna_value.specs.{declared.Valued.Valued, Values.value_of}
+use Rattle.sedna_value.specs.{declared.Value.Value, Values.value_of}
 use Rattle.sedna_value_laws.specs.Ascii.{ascii}
 
 -- a refusal's number, or the value
@@ -16,12 +18,12 @@ pub data Expected : Type 0 where
   boolean : Bool → Expected
   double : Float → Expected
 
-abbrev pub answer_of : Valued → Expected
-answer_of (Valued.Is (Whole n)) = Expected.whole n
-answer_of (Valued.Is (At i)) = Expected.instant i.seconds i.nanos
-answer_of (Valued.Is (Boolean b)) = Expected.boolean b
-answer_of (Valued.Is (Double x)) = Expected.double x
-answer_of (Valued.Refused r) = Expected.refused (number_of r)
+abbrev pub answer_of : Result Value Refusal → Expected
+answer_of (Ok (Whole n)) = Expected.whole n
+answer_of (Ok (At i)) = Expected.instant i.seconds i.nanos
+answer_of (Ok (Boolean b)) = Expected.boolean b
+answer_of (Ok (Double x)) = Expected.double x
+answer_of (Err r) = Expected.refused (number_of r)
 
 pub record Example : Type 0 where
   pub class : ℕ

@@ -1,9 +1,11 @@
 -- What the old program got wrong: "An expiry of 09:00:00+02:00 came as a dateTime, was kept as text, and was compared with 08:30:00Z as text."
+use Rattle.std.specs.Prelude.{Ok}
 use mathlib.Core.{Bool.false, List.List, List.[], Path.◌≡◌}
 use Rattle.std.specs.Prelude.{ℕ, ◌≤◌, pos, ◌+ℤ◌}
 use Rattle.sedna_digits.specs.Numbers.{number}
-use Rattle.sedna_instant.specs.{declared.Instant.Instant, declared.Order.TheVariants.Earlier, Orders.ordered}
-use Rattle.sedna_value.specs.{declared.Value.TheVariants.At, declared.Valued.Valued, Values.value_of}
+use Rattle.std.specs.declared.cmp.Ordering.TheVariants.{Less}
+use Rattle.sedna_instant.specs.{declared.Instant.Instant, Orders.ordered}
+use Rattle.sedna_value.specs.{declared.Value.TheVariants.At, Values.value_of}
 use Rattle.sedna_value_laws.specs.{Types.date_time, DateTimeTexts.Zone, DateTimeTexts.DateTime, DateTimeTexts.written, DateTimeTexts.Formed}
 
 -- a time of a day, on the minute
@@ -23,9 +25,9 @@ clock year month day = at year month day 8 30 Zone.utc
 pub record Expired (a b : DateTime) : Type 0 where
   pub expires : Instant
   pub now : Instant
-  pub expiry_read : value_of 1 date_time (written a) ≡ Valued.Is (At expires)
-  pub now_read : value_of 1 date_time (written b) ≡ Valued.Is (At now)
-  pub earlier : ordered expires now ≡ Earlier
+  pub expiry_read : value_of 1 date_time (written a) ≡ Ok (At expires)
+  pub now_read : value_of 1 date_time (written b) ≡ Ok (At now)
+  pub earlier : ordered expires now ≡ Less
   -- "A channel was used ninety minutes past its end."
   pub ninety_minutes : now.seconds ≡ expires.seconds +ℤ pos 5400
 

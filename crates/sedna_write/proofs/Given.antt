@@ -1,5 +1,7 @@
 -- Options given as three lists: one at a time.
-use mathlib.Core.Path.{◌≡◌, refl, sym, ap, ◌∙◌}
+use Rattle.std.specs.Prelude.{Result, Ok}
+use Rattle.wire.specs.declared.Refusal.{Refusal}
+use mathlib.Core.Path.{◌≡◌, refl, sym, ◌∙◌}
 use mathlib.Core.List.{List, [], ◌∷◌, ◌++◌, flat_map}
 use mathlib.Core.Bool.{Bool, true, false}
 use Prim.Native.Nat.{ℕ, ◌+◌, ◌*◌, ◌-◌, ◌≤◌, ◌<◌, min}
@@ -9,10 +11,8 @@ use lib.Dec.{eqb}
 use lib.ListN.{length, take, drop, get_or, length-append, length-drop, drop_of_length-le}
 use lib.Seq.{drop-cons, drop-drop, length-take-le}
 use borrow.Author.Tests.{eq-eqb, ne_eqb, eqb-true, eqb-false}
-use Rattle.wire.specs.Bytes.{if, int, splice}
+use Rattle.wire.specs.Bytes.{if, int}
 use Rattle.wire.specs.Call.{put_at}
-use Rattle.wire.specs.declared.Counted.{Counted}
-use Rattle.wire.specs.declared.Counted.TheVariants.{Count}
 use Rattle.wire.proofs.Splices.{Ahead, step, splice-none}
 use Rattle.sedna.specs.declared.Shape.TheVariants as shape
 use Rattle.sedna.specs.Encode.{pair_bytes, pairs_bytes, string}
@@ -68,17 +68,6 @@ given-split ids lengths values h = by (eqb (length ids) (length lengths)) refl h
     by true e p = (eqb-true _ _ e, eqb-true _ _ p)
     by false e p = let z : ◌≡◌ {A = ℕ} 0 1 = cc in absurd (omega arith)
 
--- the options from place k on, the values' from `from` on
-pub pairs_next : (ids lengths values : List ℕ) (k from : ℕ) → k < length ids → k < length lengths
-    → pairs_of (drop k ids) (drop k lengths) (drop from values)
-    ≡ record { id = get_or ids k 0; value = take (get_or lengths k 0) (drop from values) } ∷ pairs_of (drop (k + 1) ids) (drop (k + 1) lengths) (drop (from + get_or lengths k 0) values)
-unfolding pairs_of
-pairs_next ids lengths values k from h g = rw (add-one k, drop-cons ids k 0 h, drop-cons lengths k 0 g, ← drop-drop (get_or lengths k 0) from values)
-
-pub pairs_end : (ids lengths values : List ℕ) (k : ℕ) → length ids ≤ k → pairs_of (drop k ids) (drop k lengths) values ≡ []
-unfolding pairs_of
-pairs_end ids lengths values k h = rw (drop_of_length-le ids h)
-
 pub pair-length : (p : Pair) → length (pair_bytes p) ≡ length p.value + 9
 unfolding pair_bytes
 pair-length p = omega (arith, length-append (int p.id) (string p.value), int-length p.id, string-length p.value)
@@ -95,49 +84,43 @@ pairs-counted (i ∷ ids) (n ∷ lengths) values e s =
     let r : length (pairs_bytes (pairs_of ids lengths (drop n values))) ≡ length ids * 9 + length (drop n values) = pairs-counted ids lengths (drop n values) (omega arith) (omega arith) in
     omega (arith, length-append (pair_bytes p) (pairs_bytes (pairs_of ids lengths (drop n values))), pair-length p)
 
--- an option that was written: the next one is ahead, behind it
-module _ (ids lengths values : List ℕ) (k from : ℕ) (h : k < length ids) (g : k < length lengths) (f : from + get_or lengths k 0 ≤ length values) where
-  abbrev pub rest-bytes : List ℕ
-  rest-bytes = pairs_bytes (pairs_of (drop (k + 1) ids) (drop (k + 1) lengths) (drop (from + get_or lengths k 0) values))
+-- of options that are ahead, their values from `from` on, the first: it fits, and once written the next is ahead, behind it
+module _ (id n : ℕ) (ids lengths values : List ℕ) (from : ℕ) (f : from + n ≤ length values) {t d : List ℕ} {at : ℕ}
+    (a : Ahead t d at (pairs_bytes (pairs_of (id ∷ ids) (n ∷ lengths) (drop from values)))) where
+  abbrev first : Pair
+  first = record { id = id; value = take n (drop from values) }
 
-  pub ahead-next : {t d e : List ℕ} {at : ℕ} → Ahead t d at (pairs_bytes (pairs_of (drop k ids) (drop k lengths) (drop from values)))
-      → e ≡ put_at d at (pair_bytes (record { id = get_or ids k 0; value = take (from + get_or lengths k 0 - from) (drop from values) }))
-      → Ahead t e (at + 9 + (from + get_or lengths k 0 - from)) rest-bytes
-  unfolding flat_map
-  ahead-next {t} {d} {e} {at} a p =
-      let n : ℕ = get_or lengths k 0 in
+  abbrev behind : List ℕ
+  behind = pairs_bytes (pairs_of ids lengths (drop (from + n) values))
+
+  in-two : Ahead t d at (pair_bytes first ++ behind)
+  unfolding pairs_of flat_map
+  in-two = rw (← drop-drop n from values) a
+
+  long : length (pair_bytes first) ≡ 9 + n
+  long =
+      let d : length (drop from values) ≡ length values - from = length-drop from values in
+      let l : length (take n (drop from values)) ≡ n = length-take-le n (drop from values) (omega arith) in
+      omega (arith, pair-length first)
+
+  pub next_fits : at + 9 + n ≤ length d
+  next_fits = omega (arith, in-two.fits, length-append (pair_bytes first) behind, long)
+
+  pub ahead-next : {e : List ℕ} → e ≡ put_at d at (pair_bytes (record { id = id; value = take (from + n - from) (drop from values) })) → Ahead t e (at + (9 + n)) behind
+  ahead-next {e} p =
       let c : from + n - from ≡ n = omega arith in
-      let q : Pair = record { id = get_or ids k 0; value = take n (drop from values) } in
-      let s : pairs_bytes (pairs_of (drop k ids) (drop k lengths) (drop from values)) ≡ pair_bytes q ++ rest-bytes = rw (pairs_next ids lengths values k from h g) in
-      let b : Ahead t d at (pair_bytes q ++ rest-bytes) = rw s at a in
-      let w : e ≡ put_at d at (pair_bytes q) = rw c at p in
-      let dl : length (drop from values) ≡ length values - from = length-drop from values in
-      let l : length (take n (drop from values)) ≡ n = length-take-le n (drop from values) (omega arith) in
-      let m : length (pair_bytes q) ≡ length (take n (drop from values)) + 9 = pair-length q in
-      step (pair_bytes q) (at + 9 + (from + n - from)) b w (omega arith)
-
-  -- it fits, since what is ahead does
-  pub next_fits : {t d : List ℕ} {at : ℕ} → Ahead t d at (pairs_bytes (pairs_of (drop k ids) (drop k lengths) (drop from values))) → at + 9 + get_or lengths k 0 ≤ length d
-  unfolding flat_map
-  next_fits {t} {d} {at} a =
-      let n : ℕ = get_or lengths k 0 in
-      let q : Pair = record { id = get_or ids k 0; value = take n (drop from values) } in
-      let s : pairs_bytes (pairs_of (drop k ids) (drop k lengths) (drop from values)) ≡ pair_bytes q ++ rest-bytes = rw (pairs_next ids lengths values k from h g) in
-      let b : at + length (pair_bytes q ++ rest-bytes) ≤ length d = (rw s at a).fits in
-      let dl : length (drop from values) ≡ length values - from = length-drop from values in
-      let l : length (take n (drop from values)) ≡ n = length-take-le n (drop from values) (omega arith) in
-      omega (arith, length-append (pair_bytes q) rest-bytes, pair-length q)
+      let w : e ≡ put_at d at (pair_bytes first) = rw c at p in
+      step (pair_bytes first) (at + (9 + n)) in-two w (omega (arith, long))
 
 -- all options were written
-pub ahead-end : {t d : List ℕ} {at : ℕ} (ids lengths values : List ℕ) (k : ℕ) → length ids ≤ k → Ahead t d at (pairs_bytes (pairs_of (drop k ids) (drop k lengths) values)) → d ≡ t
-unfolding flat_map
-ahead-end {t} {d} {at} ids lengths values k h a =
-    let e : pairs_bytes (pairs_of (drop k ids) (drop k lengths) values) ≡ [] = ap pairs_bytes (pairs_end ids lengths values k h) in
-    sym (splice-none d at) ∙ ap (splice d at) (sym e) ∙ a.makes
+pub ahead-end : {t d : List ℕ} {at : ℕ} (ids lengths values : List ℕ) → length ids ≡ 0 → Ahead t d at (pairs_bytes (pairs_of ids lengths values)) → d ≡ t
+unfolding pairs_of flat_map
+ahead-end {t} {d} {at} [] lengths values h a = sym (splice-none d at) ∙ a.makes
+ahead-end (x ∷ ids) lengths values h a = absurd (omega arith)
 
 -- the head of options: the writer's bound on the body's length serves as the length
 module _ (ids lengths values : List ℕ) where
-  pub options_head : {d e : List ℕ} {i a b : ℕ} {ok : Bool} {w : Counted} → ok ≡ given ids lengths values → a ≡ min 10241 (length ids + 0) → b ≡ min 10241 (length values + 0)
+  pub options_head : {d e : List ℕ} {i a b : ℕ} {ok : Bool} {w : Result ℕ Refusal} → ok ≡ given ids lengths values → a ≡ min 10241 (length ids + 0) → b ≡ min 10241 (length values + 0)
       → Begins d i shape.Options ok (a * 9 + b) w e → Begins d i shape.Options (given ids lengths values) (length (pairs_bytes (pairs_of ids lengths values))) w e
   options_head {ok = ok} o ha hb h =
       begun h _ _ o λ (t : ok ≡ true).
@@ -145,8 +128,8 @@ module _ (ids lengths values : List ℕ) where
       omega (arith, pairs-counted ids lengths values s.0 s.1)
 
   -- what was counted can be written behind it
-  pub options_fit : {d e f : List ℕ} {i k : ℕ} {w : Counted} → Begins d i shape.Options (given ids lengths values) (length (pairs_bytes (pairs_of ids lengths values))) w e
-      → w ≡ Count k → length f ≡ length d → PairsFit f ids lengths values
+  pub options_fit : {d e f : List ℕ} {i k : ℕ} {w : Result ℕ Refusal} → Begins d i shape.Options (given ids lengths values) (length (pairs_bytes (pairs_of ids lengths values))) w e
+      → w ≡ Ok k → length f ≡ length d → PairsFit f ids lengths values
   options_fit h q l =
       let c = counted h q in
       let s = given-split ids lengths values c.allowed in

@@ -1,8 +1,10 @@
 -- The options of a SetOptions message, given as three lists: ids, how many bytes each value has, and the values one behind the other.
+use Rattle.std.specs.Prelude.{Result}
+use Rattle.wire.specs.declared.Refusal.{Refusal}
 use mathlib.Core.{List.List, List.[], List.◌∷◌, Bool.Bool, Bool.false}
 use Rattle.std.specs.Prelude.{ℕ, ◌+◌}
 use lib.{Dec.eqb, ListN.length, ListN.take, ListN.drop}
-use Rattle.wire.specs.{Bytes.if, Call.Writes, declared.Counted.Counted}
+use Rattle.wire.specs.{Bytes.if, Call.Writes}
 use Rattle.sedna.specs.{declared.Shape.TheVariants.Options, Encode.pairs_bytes, Encode.encode, Message.Pair, Message.Body, Message.Message, Message.message}
 use Rattle.sedna_write.specs.Writing.{judgement}
 
@@ -24,11 +26,11 @@ abbrev pub options_message : ℕ → List ℕ → List ℕ → List ℕ → Mess
 options_message instruction ids lengths values = message instruction (Body.options (pairs_of ids lengths values))
 
 -- what writing the options of three lists answers, for an output of so many bytes: lists that do not belong together are a value that is not allowed
-abbrev pub options_written : ℕ → ℕ → List ℕ → List ℕ → List ℕ → Counted
+abbrev pub options_written : ℕ → ℕ → List ℕ → List ℕ → List ℕ → Result ℕ Refusal
 options_written room instruction ids lengths values =
     judgement instruction Options (given ids lengths values) (length (pairs_bytes (pairs_of ids lengths values))) room
 
 -- the contract of a call that writes them in front of the output
-abbrev pub WritesOptions : List ℕ → ℕ → List ℕ → List ℕ → List ℕ → Counted → List ℕ → Type 0
+abbrev pub WritesOptions : List ℕ → ℕ → List ℕ → List ℕ → List ℕ → Result ℕ Refusal → List ℕ → Type 0
 WritesOptions out instruction ids lengths values =
     Writes (options_written (length out) instruction ids lengths values) out 0 (encode (options_message instruction ids lengths values))

@@ -1,6 +1,10 @@
 -- A table that has the machine's move at every instruction, phase and version is read as the machine moves, from whatever phase and in whatever version.
+use Rattle.std.specs.List.{position_from}
+use Rattle.std.specs.Prelude.{Option, Some, None, cond, position}
+use Rattle.std.proofs.lemmas.Iterator.Adapters.{position_from-zero}
+use Rattle.std.proofs.lemmas.List.Quantifiers.{position-Some}
 use mathlib.Core.Bool.{Bool, true, false}
-use mathlib.Core.List.{List, [], ◌∷◌, ◌++◌, map}
+use mathlib.Core.List.{List, [], ◌∷◌, map}
 use mathlib.Core.Logic.{◌⊎◌, inl, inr}
 use mathlib.Core.Path.{◌≡◌, refl, sym, ap, ◌∙◌, subst}
 use Prim.Native.Nat.{ℕ, zero, suc, ◌+◌, ◌-◌, ◌*◌, ◌≤◌, ◌<◌}
@@ -8,13 +12,11 @@ use native.Mathlib.Nat.{add-zero, zero-add, add-suc, suc-add, le_of_suc-le-suc, 
 use native.Mathlib.Omega.{arith}
 use lib.Dec.{eqb, leb, ltb}
 use lib.ListN.{get_or, length, get_or-eq_default}
-use borrow.Author.Tests.{leb-true, leb-false, ltb-true, ltb-false, eqb-true, le-leb, lt-leb, le-ltb, eq-eqb, ne_eqb}
+use borrow.Author.Tests.{leb-true, leb-false, ltb-true, ltb-false, eqb-true, le-leb, lt-leb, le-ltb, eq-eqb}
 use Rattle.wire.specs.Bytes.{if}
 use Rattle.wire.proofs.Branches.{both, neither}
 use Rattle.sedna.specs.declared.Entry.{Entry}
-use Rattle.sedna.specs.declared.Found.{Found}
-use Rattle.sedna.specs.declared.Found.TheVariants.{Known, Unknown}
-use Rattle.sedna.specs.declared.Side.TheVariants.{Client, Server}
+use Rattle.sedna.specs.declared.{Shape.Shape, Side.Side, Side.TheVariants.Client, Side.TheVariants.Server}
 use Rattle.sedna.specs.Table.{rows, find_of, search as scan}
 use Rattle.session.specs.declared.table.Column.{Column}
 use Rattle.session.specs.Machine.{Row, next, move_of, refused, along, client_rows, server_rows, client_row, server_row, client_move, server_move}
@@ -26,10 +28,10 @@ pub same_rows : (p v w k : ℕ) → client_row p v ≡ client_row p w → server
 unfolding next client_move server_move
 same_rows p v w k c s = by (find_of k)
   where
-    by : (f : Found) → move_of f p v k ≡ move_of f p w k
-    by Unknown = refl
-    by (Known Client shape) = ap (along k) c
-    by (Known Server shape) = ap (along k) s
+    by : (f : Option (Side × Shape)) → move_of f p v k ≡ move_of f p w k
+    by None = refl
+    by (Some (Client, shape)) = ap (along k) c
+    by (Some (Server, shape)) = ap (along k) s
 
 -- versions with the same rows move alike
 alike : (a b : ℕ) → client_rows a ≡ client_rows b → server_rows a ≡ server_rows b → (p k : ℕ) → next p a k ≡ next p b k
@@ -60,10 +62,10 @@ pub beyond : (p v k : ℕ) → closed < p → next p v k ≡ refused
 unfolding next client_move server_move
 beyond p v k h = by (find_of k)
   where
-    by : (f : Found) → move_of f p v k ≡ refused
-    by Unknown = refl
-    by (Known Client shape) = rw (get_or-eq_default (client_rows v) [] {n = p} (omega arith)) refl
-    by (Known Server shape) = rw (get_or-eq_default (server_rows v) [] {n = p} (omega arith)) refl
+    by : (f : Option (Side × Shape)) → move_of f p v k ≡ refused
+    by None = refl
+    by (Some (Client, shape)) = rw (get_or-eq_default (client_rows v) [] {n = p} (omega arith)) refl
+    by (Some (Server, shape)) = rw (get_or-eq_default (server_rows v) [] {n = p} (omega arith)) refl
 
 -- the table that is computed from the machine holds the rule
 entry_at_lem : (k a n p v : ℕ) → p < n → 1 ≤ v → v ≤ 4 → get_or (moves_from k a n) (p * 4 + (v - 1)) 0 ≡ next (a + p) v k
@@ -114,21 +116,21 @@ module _ (t : Table) where
         by false q = let c = counted v in right p (ltb-false closed p q) (counted_of v) c.0 c.1.0 ∙ c.1.1 p i
 
     looked : (es : List Entry) (j : ℕ) → Holds es j
-        → (look_from es j t p v k ≡ next p v k) ⊎ ((look_from es j t p v k ≡ refused) × (scan k es ≡ Unknown))
+        → (look_from es j t p v k ≡ next p v k) ⊎ ((look_from es j t p v k ≡ refused) × (scan k es ≡ None))
     unfolding look_from scan
     looked [] j right = inr (refl, refl)
     looked (e ∷ es) j right = by (eqb e.0 k) refl (looked es (suc j) right.1)
       where
-        by : (b : Bool) → eqb e.0 k ≡ b → (look_from es (suc j) t p v k ≡ next p v k) ⊎ ((look_from es (suc j) t p v k ≡ refused) × (scan k es ≡ Unknown))
+        by : (b : Bool) → eqb e.0 k ≡ b → (look_from es (suc j) t p v k ≡ next p v k) ⊎ ((look_from es (suc j) t p v k ≡ refused) × (scan k es ≡ None))
             → (if b (entry_in (get_or t j none) p v) (look_from es (suc j) t p v k) ≡ next p v k)
-            ⊎ ((if b (entry_in (get_or t j none) p v) (look_from es (suc j) t p v k) ≡ refused) × (if b (Known e.1 e.2) (scan k es) ≡ Unknown))
+            ⊎ ((if b (entry_in (get_or t j none) p v) (look_from es (suc j) t p v k) ≡ refused) × (if b (Some (e.1, e.2)) (scan k es) ≡ None))
         by true q again = inl (read j e.0 right.0 ∙ ap (next p v) (eqb-true e.0 k q))
         by false q again = again
 
-    settle : (look_from rows 0 t p v k ≡ next p v k) ⊎ ((look_from rows 0 t p v k ≡ refused) × (scan k rows ≡ Unknown)) → look_from rows 0 t p v k ≡ next p v k
+    settle : (look_from rows 0 t p v k ≡ next p v k) ⊎ ((look_from rows 0 t p v k ≡ refused) × (scan k rows ≡ None)) → look_from rows 0 t p v k ≡ next p v k
     unfolding next find_of
     settle (inl e) = e
-    settle (inr u) = u.0 ∙ sym (ap (λ (f : Found). move_of f p v k) u.1)
+    settle (inr u) = u.0 ∙ sym (ap (λ (f : Option (Side × Shape)). move_of f p v k) u.1)
 
 -- the law: by a table that holds the rule every move is the machine's
 pub moves : (t : Table) → Rule t → (p v k : ℕ) → look_up t p v k ≡ next p v k
@@ -186,20 +188,28 @@ no_other t same e (j, h, q) p l v m n =
 pub by_sheet : {r : ℕ} (p v k : ℕ) (t : Table) → t ≡ sheet → r ≡ look_up t p v k → r ≡ next p v k
 by_sheet p v k t e h = h ∙ ap (λ (x : Table). look_up x p v k) e ∙ moves sheet rule p v k
 
--- the entries es lack the instruction, as a `match` hands that to its last arm
-abbrev pub NoneOf : ℕ → Type 0 → List Entry → Type 0
-NoneOf k A [] = A
-NoneOf k A (e ∷ es) = NoneOf k (A × (k ≡ e.0 → ⊥)) es
+-- the move by the place of the first entry that has the instruction
+abbrev pub at_place : Table → ℕ → ℕ → Option ℕ → ℕ
+at_place t p v None = refused
+at_place t p v (Some j) = entry_in (get_or t j none) p v
 
-passed : (k : ℕ) (A : Type 0) (es fs : List Entry) (j : ℕ) (t : Table) (p v : ℕ) → NoneOf k A es
-    → (look_from (es ++ fs) j t p v k ≡ look_from fs (length es + j) t p v k) × A
+pub by_place : (es : List Entry) (j : ℕ) (t : Table) (p v k : ℕ) → look_from es j t p v k ≡ at_place t p v (position_from (λ e. eqb e.0 k) j es)
 unfolding look_from
-passed k A [] fs j t p v n = (ap (λ (i : ℕ). look_from fs i t p v k) (sym (zero-add j)), n)
-passed k A (e ∷ es) fs j t p v n =
-    let w = passed k (A × (k ≡ e.0 → ⊥)) es fs (suc j) t p v n in (
-      rw (ne_eqb e.0 k (λ q. w.1.1 (sym q))) (w.0 ∙ ap (λ (i : ℕ). look_from fs i t p v k) (add-suc (length es) j ∙ sym (suc-add (length es) j))),
-      w.1.0,
-    )
+by_place [] j t p v k = refl
+by_place (e ∷ es) j t p v k = by (eqb e.0 k) (ap (λ (i : ℕ). look_from es i t p v k) (suc_one j) ∙ by_place es (j + 1) t p v k)
+  where
+    suc_one : (n : ℕ) → suc n ≡ n + 1
+    suc_one n = omega arith
 
-pub others : (k : ℕ) (es fs : List Entry) (j : ℕ) (t : Table) (p v : ℕ) → NoneOf k (Unit {0}) es → look_from (es ++ fs) j t p v k ≡ look_from fs (length es + j) t p v k
-others k es fs j t p v n = (passed k (Unit {0}) es fs j t p v n).0
+    by : (b : Bool) → look_from es (suc j) t p v k ≡ at_place t p v (position_from (λ e. eqb e.0 k) (j + 1) es)
+        → if b (entry_in (get_or t j none) p v) (look_from es (suc j) t p v k) ≡ at_place t p v (cond b (Some j) (position_from (λ e. eqb e.0 k) (j + 1) es))
+    by true h = refl
+    by false h = h
+
+pub placed : (t : Table) (p v k : ℕ) → look_up t p v k ≡ at_place t p v (position (λ e. eqb e.0 k) rows)
+unfolding look_up
+placed t p v k = by_place rows 0 t p v k ∙ ap (at_place t p v) (sym (position_from-zero (λ e. eqb e.0 k) rows))
+
+pub place_inside : (k j : ℕ) → position (λ (e : Entry). eqb e.0 k) rows ≡ Some j → j < 46
+unfolding rows
+place_inside k j e = (position-Some (λ (e : Entry). eqb e.0 k) rows j (record { 0 = 0; 1 = Client; 2 = Shape.Empty }) e).0

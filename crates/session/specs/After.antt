@@ -1,4 +1,6 @@
 -- What a step makes of an answer, by the places of the message's fields.
+use Rattle.std.specs.Prelude.{Result, Ok, Err}
+use Rattle.wire.specs.declared.Refusal.{Refusal}
 use Rattle.std.specs.Prelude.{ℕ, eqb}
 use Rattle.wire.specs.Bytes.{if}
 use Rattle.sedna.specs.Names.{SessionParameters}
@@ -16,6 +18,6 @@ major_in (Places.Options pairs count) = 0
 major_in (Places.Item class kind url part) = 0
 
 -- the record after an answer: an accepted message leads to the phase `to`
-abbrev pub after_answer : Session → ℕ → Reading → Session
-after_answer s to (Reading.Refused r) = s
-after_answer s to (Reading.Message k p n) = record { phase = to; version = if (eqb k SessionParameters) (major_in p) s.version }
+abbrev pub after_answer : Session → ℕ → Result Reading Refusal → Session
+after_answer s to (Err r) = s
+after_answer s to (Ok m) = record { phase = to; version = if (eqb m.instruction SessionParameters) (major_in m.places) s.version }

@@ -1,4 +1,5 @@
 -- Laws of any list that begins a conversation: somebody has the turn behind it, one side only, and what ErrorResponse does there.
+use Rattle.std.specs.Prelude.{Option as Found, Some, None}
 use mathlib.Core.Bool.{Bool, true, false}
 use mathlib.Core.List.{List, [], ◌∷◌, ◌++◌, append_assoc, append-nil}
 use mathlib.Core.Logic.{◌↔◌, inl, inr}
@@ -11,10 +12,7 @@ use lib.ListN.{length}
 use borrow.Author.Tests.{eqb-true, eq-eqb, ltb-true}
 use Rattle.wire.specs.Bytes.{if}
 use Rattle.wire.specs.Every.{Every, OneOf}
-use Rattle.sedna.specs.declared.Side.{Side}
-use Rattle.sedna.specs.declared.Side.TheVariants.{Client, Server}
-use Rattle.sedna.specs.declared.Found.{Found}
-use Rattle.sedna.specs.declared.Found.TheVariants.{Known, Unknown}
+use Rattle.sedna.specs.declared.{Shape.Shape, Side.Side, Side.TheVariants.Client, Side.TheVariants.Server}
 use Rattle.sedna.specs.Message.{Message}
 use Rattle.sedna.specs.Names as M
 use Rattle.sedna.specs.Published.{Published}
@@ -66,10 +64,10 @@ next-onward : (p v k : ℕ) → 0 < next p v k
 unfolding next client_move server_move
 next-onward p v k = by (find_of k)
   where
-    by : (f : Found) → 0 < move_of f p v k
-    by Unknown = omega arith
-    by (Known Client shape) = along-onward k (client_row p v) (row_each onward refl p (client_rows v) refl)
-    by (Known Server shape) = along-onward k (server_row p v) (row_each onward refl p (server_rows v) refl)
+    by : (f : Found (Side × Shape)) → 0 < move_of f p v k
+    by None = omega arith
+    by (Some (Client, shape)) = along-onward k (client_row p v) (row_each onward refl p (client_rows v) refl)
+    by (Some (Server, shape)) = along-onward k (server_row p v) (row_each onward refl p (server_rows v) refl)
 
 -- ahead of SessionParameters: the phases, and that no message is one
 abbrev pub Early : ℕ → Type 0
@@ -88,20 +86,20 @@ into_early p v k (inr (inl e)) = by (find_of k) e
     sent q (inl is) = (inl (row_only_at M.StartUp N.start_up p (client_rows v) refl (rw (sym is) (ap (λ (n : ℕ). eqb n refused) q))), rw is)
     sent q (inr o) = absurd o
 
-    by : (f : Found) → move_of f p v k ≡ N.start_up_answer → Early p × (eqb k M.SessionParameters ≡ false)
-    by Unknown q = absurd (omega (arith, q))
-    by (Known Client shape) q = sent q (row_led_by k N.start_up_answer (M.StartUp ∷ []) p (client_rows v) refl refl q)
-    by (Known Server shape) q = absurd (row_led_by k N.start_up_answer [] p (server_rows v) refl refl q)
+    by : (f : Found (Side × Shape)) → move_of f p v k ≡ N.start_up_answer → Early p × (eqb k M.SessionParameters ≡ false)
+    by None q = absurd (omega (arith, q))
+    by (Some (Client, shape)) q = sent q (row_led_by k N.start_up_answer (M.StartUp ∷ []) p (client_rows v) refl refl q)
+    by (Some (Server, shape)) q = absurd (row_led_by k N.start_up_answer [] p (server_rows v) refl refl q)
 into_early p v k (inr (inr (inl e))) = by (find_of k) e
   where
     sent : along k (server_row p v) ≡ N.parameters → OneOf (M.SendSessionParameters ∷ []) k → Early p × (eqb k M.SessionParameters ≡ false)
     sent q (inl is) = (inr (inl (row_only_at M.SendSessionParameters N.start_up_answer p (server_rows v) refl (rw (sym is) (ap (λ (n : ℕ). eqb n refused) q)))), rw is)
     sent q (inr o) = absurd o
 
-    by : (f : Found) → move_of f p v k ≡ N.parameters → Early p × (eqb k M.SessionParameters ≡ false)
-    by Unknown q = absurd (omega (arith, q))
-    by (Known Client shape) q = absurd (row_led_by k N.parameters [] p (client_rows v) refl refl q)
-    by (Known Server shape) q = sent q (row_led_by k N.parameters (M.SendSessionParameters ∷ []) p (server_rows v) refl refl q)
+    by : (f : Found (Side × Shape)) → move_of f p v k ≡ N.parameters → Early p × (eqb k M.SessionParameters ≡ false)
+    by None q = absurd (omega (arith, q))
+    by (Some (Client, shape)) q = absurd (row_led_by k N.parameters [] p (client_rows v) refl refl q)
+    by (Some (Server, shape)) q = sent q (row_led_by k N.parameters (M.SendSessionParameters ∷ []) p (server_rows v) refl refl q)
 into_early p v k (inr (inr (inr o))) = absurd o
 
 pub unsaid_next : (l : List Message) (p v : ℕ) (m : Message) → (Early p → Unsaid l) → Early (next p v m.instruction) → Unsaid (l ++ (m ∷ []))

@@ -1,4 +1,5 @@
 -- What goes on in a file and behind it: each message leads to one phase, whoever asked for the file and however many portions were sent.
+use Rattle.std.specs.Prelude.{Option, Some, None}
 use mathlib.Core.Bool.{Bool, true, false}
 use mathlib.Core.List.{List, [], ◌∷◌, ◌++◌, append_assoc, append-nil}
 use mathlib.Core.Logic.{◌⊎◌, inl, inr}
@@ -9,10 +10,7 @@ use lib.Dec.{eqb, leb}
 use lib.ListN.{get_or}
 use Rattle.wire.specs.Bytes.{if}
 use Rattle.wire.specs.Every.{Every, OneOf}
-use Rattle.sedna.specs.declared.Side.{Side}
-use Rattle.sedna.specs.declared.Side.TheVariants.{Client, Server}
-use Rattle.sedna.specs.declared.Found.{Found}
-use Rattle.sedna.specs.declared.Found.TheVariants.{Known, Unknown}
+use Rattle.sedna.specs.declared.{Shape.Shape, Side.Side, Side.TheVariants.Client, Side.TheVariants.Server}
 use Rattle.sedna.specs.Message.{Message}
 use Rattle.sedna.specs.Names as M
 use Rattle.sedna.specs.Published.{Published}
@@ -116,10 +114,10 @@ into_file p v k = by (find_of k)
     )
     sent e (inr o) = absurd o
 
-    by : (f : Found) → move_of f p v k ≡ N.file → OneOf (M.BulkLoadFileName ∷ M.BulkLoadFromStream ∷ []) k ⊎ ((k ≡ M.BulkLoadPortion) × (p ≡ N.file))
-    by Unknown e = absurd (omega (arith, e))
-    by (Known Client shape) e = inr (sent e (row_led_by k N.file (M.BulkLoadPortion ∷ []) p (client_rows v) refl refl e))
-    by (Known Server shape) e = inl (row_led_by k N.file (M.BulkLoadFileName ∷ M.BulkLoadFromStream ∷ []) p (server_rows v) refl refl e)
+    by : (f : Option (Side × Shape)) → move_of f p v k ≡ N.file → OneOf (M.BulkLoadFileName ∷ M.BulkLoadFromStream ∷ []) k ⊎ ((k ≡ M.BulkLoadPortion) × (p ≡ N.file))
+    by None e = absurd (omega (arith, e))
+    by (Some (Client, shape)) e = inr (sent e (row_led_by k N.file (M.BulkLoadPortion ∷ []) p (client_rows v) refl refl e))
+    by (Some (Server, shape)) e = inl (row_led_by k N.file (M.BulkLoadFileName ∷ M.BulkLoadFromStream ∷ []) p (server_rows v) refl refl e)
 
 -- so a record that awaits the rest of a file stands behind the messages of one
 abbrev Shown : List Message → ℕ → Type 0

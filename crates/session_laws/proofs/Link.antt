@@ -1,4 +1,5 @@
 -- The machine's move is the arrow that the grammar has for the instruction.
+use Rattle.std.specs.Prelude.{Option as Found, Some, None}
 use mathlib.Core.Bool.{Bool, true, false}
 use mathlib.Core.List.{List, [], ◌∷◌}
 use mathlib.Core.Option.{Option, none, some}
@@ -8,9 +9,7 @@ use lib.Dec.{T, eqb}
 use lib.ListN.{get_or}
 use borrow.Author.Tests.{eqb-true}
 use Rattle.wire.specs.Bytes.{if}
-use Rattle.sedna.specs.declared.Side.TheVariants.{Client, Server}
-use Rattle.sedna.specs.declared.Found.{Found}
-use Rattle.sedna.specs.declared.Found.TheVariants.{Known, Unknown}
+use Rattle.sedna.specs.declared.{Shape.Shape, Side.Side, Side.TheVariants.Client, Side.TheVariants.Server}
 use Rattle.sedna.specs.Message.{Message}
 use Rattle.sedna.specs.Table.{find_of}
 use Rattle.grammar.specs.Sent.{Version}
@@ -62,11 +61,11 @@ is_same Sender.server = refl
 is_same Sender.nobody = refl
 
 -- the machine's move is along the row of the instruction's sender
-move_row : (f : Found) (p v k : ℕ) → move_of f p v k ≡ along k (get_or (rows_of (sender f) v) p [])
+move_row : (f : Found (Side × Shape)) (p v k : ℕ) → move_of f p v k ≡ along k (get_or (rows_of (sender f) v) p [])
 unfolding client_move server_move
-move_row Unknown p v k = refl
-move_row (Known Client shape) p v k = refl
-move_row (Known Server shape) p v k = refl
+move_row None p v k = refl
+move_row (Some (Client, shape)) p v k = refl
+move_row (Some (Server, shape)) p v k = refl
 
 pub next-found : (p : Phase) (v : Version) (k : ℕ) → next (code p) v k ≡ mark (led (find k (row p v)))
 unfolding next

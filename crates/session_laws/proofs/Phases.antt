@@ -1,4 +1,5 @@
 -- The grammar's phases in the session record: each has a number, and there the machine's rows are the ways out of the phase, by who sends them.
+use Rattle.std.specs.Prelude.{Option, Some, None}
 use mathlib.Core.Bool.{Bool, true, false}
 use mathlib.Core.List.{List, [], ◌∷◌}
 use mathlib.Core.Path.{◌≡◌, refl, sym, ◌∙◌, ap}
@@ -8,9 +9,7 @@ use lib.Dec.{eqb, ltb}
 use lib.ListN.{get_or, get_or-eq_default}
 use borrow.Author.Tests.{ne_eqb, ltb-true, ltb-false}
 use Rattle.wire.specs.Bytes.{if}
-use Rattle.sedna.specs.declared.Side.TheVariants.{Client, Server}
-use Rattle.sedna.specs.declared.Found.{Found}
-use Rattle.sedna.specs.declared.Found.TheVariants.{Known, Unknown}
+use Rattle.sedna.specs.declared.{Shape.Shape, Side.Side, Side.TheVariants.Client, Side.TheVariants.Server}
 use Rattle.sedna.specs.Message.{Message}
 use Rattle.sedna.specs.Table.{rows, search, find_of}
 use Rattle.grammar.proofs.Phase.{Phase}
@@ -77,10 +76,10 @@ ways (a ∷ r) = way a ∷ ways r
 pub data Sender : Type 0 where
   client server nobody : Sender
 
-abbrev pub sender : Found → Sender
-sender Unknown = Sender.nobody
-sender (Known Client shape) = Sender.client
-sender (Known Server shape) = Sender.server
+abbrev pub sender : Option (Side × Shape) → Sender
+sender None = Sender.nobody
+sender (Some (Client, shape)) = Sender.client
+sender (Some (Server, shape)) = Sender.server
 
 abbrev pub is : Sender → Sender → Bool
 is Sender.client Sender.client = true

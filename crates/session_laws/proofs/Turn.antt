@@ -1,4 +1,5 @@
 -- The record's turn is the grammar's: whoever may go on by the machine has the turn.
+use Rattle.std.specs.Prelude.{Option, Some, None}
 use mathlib.Core.Bool.{Bool, true, false, not}
 use mathlib.Core.List.{List, [], ◌∷◌, ◌++◌}
 use mathlib.Core.Option.{some}
@@ -10,10 +11,7 @@ use lib.ListN.{get_or, get_or-eq_default}
 use borrow.Author.Tests.{eqb-true, ltb-true, ltb-false}
 use Rattle.wire.specs.Bytes.{if, int}
 use Rattle.wire.specs.declared.Refusal.TheVariants.{OutOfOrder}
-use Rattle.sedna.specs.declared.Side.{Side}
-use Rattle.sedna.specs.declared.Side.TheVariants.{Client, Server}
-use Rattle.sedna.specs.declared.Found.{Found}
-use Rattle.sedna.specs.declared.Found.TheVariants.{Known}
+use Rattle.sedna.specs.declared.{Shape.Shape, Side.Side, Side.TheVariants.Client, Side.TheVariants.Server}
 use Rattle.sedna.specs.Allowed.{allowed, version_allowed}
 use Rattle.sedna.specs.Encode.{body_bytes, string}
 use Rattle.sedna.specs.Message.{Body, Message, message, shape_of}
@@ -29,7 +27,6 @@ use Rattle.grammar.specs.Sent.{can_send, all_bytes}
 use Rattle.grammar.specs.Turn.{GoesOn, HasTurn}
 use Rattle.grammar.proofs.Sendable.{true_T, Sendable}
 use Rattle.session.specs.declared.Session.{Session}
-use Rattle.session.specs.declared.Turn.TheVariants.{Of, Over}
 use Rattle.session.specs.Machine.{along, refused, client_rows, move_of, client_move, server_move, next}
 use Rattle.session.specs.Phases as N
 use Rattle.session.specs.Step.{Outcome, version_after, settled, turn_of, side_of}
@@ -80,10 +77,10 @@ all-failed v = refl
 sent_by_lem : (side : Side) (m : Message) → Sendable m → is (of side) (sender (find_of m.instruction)) ≡ true → Published side m
 sent_by_lem side m sent e =
     let p = (published_exact m.instruction m.body).0 sent in
-    let f : find_of m.instruction ≡ Known p.0 (shape_of m.body) = find_listed (m.instruction, p.0, shape_of m.body) p.1.listed in
-    by side p.0 p.1 (sym (ap (λ (x : Found). is (of side) (sender x)) f) ∙ e)
+    let f : find_of m.instruction ≡ Some (p.0, (shape_of m.body)) = find_listed (m.instruction, p.0, shape_of m.body) p.1.listed in
+    by side p.0 p.1 (sym (ap (λ (x : Option (Side × Shape)). is (of side) (sender x)) f) ∙ e)
   where
-    by : (side from : Side) → Published from m → is (of side) (sender (Known from (shape_of m.body))) ≡ true → Published side m
+    by : (side from : Side) → Published from m → is (of side) (sender (Some (from, (shape_of m.body)))) ≡ true → Published side m
     by Client Client p e = p
     by Server Server p e = p
     by Client Server p e = absurd (true_T {t = false} e)
@@ -128,9 +125,9 @@ goes_on {acc} {s} i side m e =
     }
 
 -- the machine's move for what a side sends
-pub moves : (side : Side) (m : Message) → Published side m → (p v : ℕ) → next p v m.instruction ≡ move_of (Known side (shape_of m.body)) p v m.instruction
+pub moves : (side : Side) (m : Message) → Published side m → (p v : ℕ) → next p v m.instruction ≡ move_of (Some (side, (shape_of m.body))) p v m.instruction
 unfolding next
-moves side m sent p v = ap (λ (f : Found). move_of f p v m.instruction) (find_listed (m.instruction, side, shape_of m.body) sent.listed)
+moves side m sent p v = ap (λ (f : Option (Side × Shape)). move_of f p v m.instruction) (find_listed (m.instruction, side, shape_of m.body) sent.listed)
 
 -- at the server's turn the machine takes nothing from the client
 client_waits : (m : Message) → Published Client m → (p v : ℕ) → N.start_up_answer ≤ p → next p v m.instruction ≡ refused
@@ -166,7 +163,7 @@ turn_exact {acc} {s} i = by (ltb s.phase N.start_up_answer) refl (ltb s.phase N.
         on true e = eqb-true m.instruction M.ErrorResponse e
         on false e = absurd (refused_not i m (published-sent sent) (server_waits m sent s.phase s.version (omega arith) e) g)
 
-    by : (t : Bool) → ltb s.phase N.start_up_answer ≡ t → (u : Bool) → ltb s.phase N.closed ≡ u → HasTurn acc (side_of (if t (Of Client) (if u (Of Server) Over)))
+    by : (t : Bool) → ltb s.phase N.start_up_answer ≡ t → (u : Bool) → ltb s.phase N.closed ≡ u → HasTurn acc (side_of (if t (Some Client) (if u (Some Server) None)))
     by true e u f =
         let h : s.phase < N.start_up_answer = ltb-true s.phase N.start_up_answer e in
         HasTurn.client (goes_on i Client (ask s.phase) (below (λ (p : ℕ). takes Client s.version p (ask p)) N.start_up_answer s.phase (all_asked s.version) h)) (only_error h)
@@ -183,7 +180,7 @@ pub client_phase : (s : Session) → some Client ≡ side_of (turn_of s) → s.p
 unfolding turn_of
 client_phase s e = by (ltb s.phase N.start_up_answer) refl (ltb s.phase N.closed) e
   where
-    by : (t : Bool) → ltb s.phase N.start_up_answer ≡ t → (u : Bool) → some Client ≡ side_of (if t (Of Client) (if u (Of Server) Over)) → s.phase < N.start_up_answer
+    by : (t : Bool) → ltb s.phase N.start_up_answer ≡ t → (u : Bool) → some Client ≡ side_of (if t (Some Client) (if u (Some Server) None)) → s.phase < N.start_up_answer
     by true h u e = ltb-true s.phase N.start_up_answer h
     by false h true e = apart (cc)
     by false h false e = apart (cc)
@@ -192,7 +189,7 @@ pub server_phase : (s : Session) → some Server ≡ side_of (turn_of s) → (N.
 unfolding turn_of
 server_phase s e = by (ltb s.phase N.start_up_answer) refl (ltb s.phase N.closed) refl e
   where
-    by : (t : Bool) → ltb s.phase N.start_up_answer ≡ t → (u : Bool) → ltb s.phase N.closed ≡ u → some Server ≡ side_of (if t (Of Client) (if u (Of Server) Over))
+    by : (t : Bool) → ltb s.phase N.start_up_answer ≡ t → (u : Bool) → ltb s.phase N.closed ≡ u → some Server ≡ side_of (if t (Some Client) (if u (Some Server) None))
         → (N.start_up_answer ≤ s.phase) × (s.phase < N.closed)
     by true h u k e = apart (cc)
     by false h true k e = (ltb-false s.phase N.start_up_answer h, ltb-true s.phase N.closed k)

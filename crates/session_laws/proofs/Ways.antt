@@ -1,4 +1,5 @@
 -- Laws of the machine's rows, each a test over the rows and what it says of a move.
+use Rattle.std.specs.Prelude.{Option, Some, None}
 use mathlib.Core.Bool.{Bool, true, false}
 use mathlib.Core.List.{List, [], ◌∷◌, ◌++◌}
 use mathlib.Core.Logic.{◌⊎◌, inl, inr}
@@ -10,9 +11,7 @@ use borrow.Author.Tests.{eqb-true, eq-eqb, leb-true}
 use Rattle.wire.specs.Bytes.{if}
 use Rattle.wire.specs.Every.{Every, OneOf}
 use Rattle.wire.proofs.Branches.{both}
-use Rattle.sedna.specs.declared.Side.TheVariants.{Client, Server}
-use Rattle.sedna.specs.declared.Found.{Found}
-use Rattle.sedna.specs.declared.Found.TheVariants.{Known, Unknown}
+use Rattle.sedna.specs.declared.{Shape.Shape, Side.Side, Side.TheVariants.Client, Side.TheVariants.Server}
 use Rattle.sedna.specs.Table.{find_of}
 use Rattle.grammar.proofs.Sendable.{true_T}
 use Rattle.session.specs.Machine.{Row, along, refused, client_rows, server_rows, client_row, server_row, move_of, client_move, server_move, next}
@@ -60,10 +59,10 @@ pub next-kind : (p v k : ℕ) → eqb (next p v k) refused ≡ false → OneOf (
 unfolding next client_move server_move
 next-kind p v k = by (find_of k)
   where
-    by : (f : Found) → eqb (move_of f p v k) refused ≡ false → OneOf (kinds_at p v) k
-    by Unknown e = not_refused e
-    by (Known Client shape) e = in_front (kinds (client_row p v)) (kinds (server_row p v)) k (along-kind k (client_row p v) e)
-    by (Known Server shape) e = in_rest (kinds (client_row p v)) (kinds (server_row p v)) k (along-kind k (server_row p v) e)
+    by : (f : Option (Side × Shape)) → eqb (move_of f p v k) refused ≡ false → OneOf (kinds_at p v) k
+    by None e = not_refused e
+    by (Some (Client, shape)) e = in_front (kinds (client_row p v)) (kinds (server_row p v)) k (along-kind k (client_row p v) e)
+    by (Some (Server, shape)) e = in_rest (kinds (client_row p v)) (kinds (server_row p v)) k (along-kind k (server_row p v) e)
 
 -- a test of every row
 abbrev pub each : (Row → Bool) → List Row → Bool
@@ -94,10 +93,10 @@ pub next_phase : (p v k : ℕ) → (next p v k ≡ refused) ⊎ (next p v k ≤ 
 unfolding next client_move server_move
 next_phase p v k = by (find_of k)
   where
-    by : (f : Found) → (move_of f p v k ≡ refused) ⊎ (move_of f p v k ≤ closed)
-    by Unknown = inl refl
-    by (Known Client shape) = along_phases k (client_row p v) (row_each to_phases refl p (client_rows v) refl)
-    by (Known Server shape) = along_phases k (server_row p v) (row_each to_phases refl p (server_rows v) refl)
+    by : (f : Option (Side × Shape)) → (move_of f p v k ≡ refused) ⊎ (move_of f p v k ≤ closed)
+    by None = inl refl
+    by (Some (Client, shape)) = along_phases k (client_row p v) (row_each to_phases refl p (client_rows v) refl)
+    by (Some (Server, shape)) = along_phases k (server_row p v) (row_each to_phases refl p (server_rows v) refl)
 
 -- every way of the instruction leads to that phase
 abbrev pub leads : ℕ → ℕ → Row → Bool

@@ -8,9 +8,10 @@ ghost use Rattle.session_lent.specs.Lent.{StepsLent};
 use sedna::Side;
 use sedna_read::Reading;
 use session::{Session, Stepped, step};
+use wire::Refusal;
 
 // The step by value, on the record where it lies. A refused step leaves it as it was.
-pub fn step_lent(s: &mut Session, side: Side, bytes: &[u8]) -> Reading
+pub fn step_lent(s: &mut Session, side: Side, bytes: &[u8]) -> Result<Reading, Refusal>
     ensures { StepsLent s.old side bytes.now result s.new }
 {
     let out = step(*s, side, bytes);

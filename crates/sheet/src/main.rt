@@ -10,45 +10,35 @@ mod names;
 
 use session::lookup::sheet;
 use session::table::Column;
-use text_lines::print::say;
+use std::io::{self, Write};
 
 // The line of a phase and an instruction, with its column of the table.
-fn line(at: usize, instruction: u32, column: Column)
+fn line<W: Write>(to: &mut W, at: u8, instruction: u32, column: Column) -> io::Result<()>
     requires { at < 31 }
 {
     let cells = column.0;
-    let first = at * 4;
-    names::phase(at as u8);
-    say(b",");
-    text_sedna::names::name(instruction);
-    let mut v = 0;
-    while v < 4 {
-        say(b",");
-        names::phase(cells[first + v]);
-        v += 1;
+    let first = at as usize * 4;
+    let phase = names::of(at);
+    let name = text_sedna::names::name(instruction);
+    write!(to, "{phase},{name}")?;
+    for cell in &cells[first..first + 4] {
+        let next = names::of(*cell);
+        write!(to, ",{next}")?;
     }
-    say(b"\n");
+    to.write_all(b"\n")
 }
 
-// The lines of a phase.
-fn lines(at: usize, columns: [Column; 46])
-    requires { at < 31 }
-{
-    let entries = sedna::table();
-    let mut j = 0;
-    while j < 46 {
-        let e = entries[j];
-        line(at, e.0, columns[j]);
-        j += 1;
-    }
-}
-
-fn main() {
-    say(b"phase,instruction,1.0,2.0,3.0,4.0\n");
+fn print<W: Write>(to: &mut W) -> io::Result<()> {
+    to.write_all(b"phase,instruction,1.0,2.0,3.0,4.0\n")?;
     let columns = sheet();
-    let mut at = 0;
-    while at < 31 {
-        lines(at, columns);
-        at += 1;
+    for at in 0..31 {
+        for (entry, column) in sedna::table().into_iter().zip(columns) {
+            line(to, at, entry.0, column)?;
+        }
     }
+    Ok(())
+}
+
+fn main(rt: HostRuntime) -> io::Result<()> {
+    print(&mut io::writer(&rt))
 }

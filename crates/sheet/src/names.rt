@@ -1,45 +1,41 @@
 // The phases' names, each by what is awaited there.
-use session::phase::REFUSED;
-use text_lines::names::entry;
-use text_lines::print::say;
+use session::phase;
 
-const NAMES: [u8; 510] = *b"0 start-up
-1 parameters
-2 authentication
-3 outside
-4 inside
-5 rest-of-text
-6 next-or-give-up
-7 again-or-inside
-8 file
-9 start-up-answer
-10 parameters-answer
-11 time-answer-out
-12 set-answer-out
-13 reset-answer-out
-14 close-answer-out
-15 time-answer-in
-16 set-answer-in
-17 reset-answer-in
-18 close-answer-in
-19 load-error-answer
-20 authentication-answer
-21 begin-answer
-22 statement-answer
-23 update-answer
-24 delivery
-25 rest-of-item
-26 again-answer
-27 commit-answer
-28 rollback-answer
-29 file-answer
-30 closed";
-
-// Prints a phase's name; - for the mark of a refused move.
-pub fn phase(phase: u8) {
-    if phase == REFUSED {
-        say(b"-");
-    } else {
-        entry(&NAMES, phase as u32);
+// A phase's name; - for the mark of a refused move.
+pub fn of(phase: u8) -> &'static str {
+    match phase {
+        phase::START_UP => "start-up",
+        phase::PARAMETERS => "parameters",
+        phase::AUTHENTICATION => "authentication",
+        phase::OUTSIDE => "outside",
+        phase::INSIDE => "inside",
+        phase::REST_OF_TEXT => "rest-of-text",
+        phase::NEXT_OR_GIVE_UP => "next-or-give-up",
+        phase::AGAIN_OR_INSIDE => "again-or-inside",
+        phase::FILE => "file",
+        phase::START_UP_ANSWER => "start-up-answer",
+        phase::PARAMETERS_ANSWER => "parameters-answer",
+        phase::TIME_ANSWER_OUT => "time-answer-out",
+        phase::SET_ANSWER_OUT => "set-answer-out",
+        phase::RESET_ANSWER_OUT => "reset-answer-out",
+        phase::CLOSE_ANSWER_OUT => "close-answer-out",
+        phase::TIME_ANSWER_IN => "time-answer-in",
+        phase::SET_ANSWER_IN => "set-answer-in",
+        phase::RESET_ANSWER_IN => "reset-answer-in",
+        phase::CLOSE_ANSWER_IN => "close-answer-in",
+        phase::LOAD_ERROR_ANSWER => "load-error-answer",
+        phase::AUTHENTICATION_ANSWER => "authentication-answer",
+        phase::BEGIN_ANSWER => "begin-answer",
+        phase::STATEMENT_ANSWER => "statement-answer",
+        phase::UPDATE_ANSWER => "update-answer",
+        phase::DELIVERY => "delivery",
+        phase::REST_OF_ITEM => "rest-of-item",
+        phase::AGAIN_ANSWER => "again-answer",
+        phase::COMMIT_ANSWER => "commit-answer",
+        phase::ROLLBACK_ANSWER => "rollback-answer",
+        phase::FILE_ANSWER => "file-answer",
+        phase::CLOSED => "closed",
+        phase::REFUSED => "-",
+        _ => "NO NAME",
     }
 }

@@ -3,15 +3,18 @@
 // programs share.
 #![tactic(auto)]
 
+use std::io::{self, Write};
+
 pub mod request;
 pub mod response;
 pub mod text;
 
 // A response to a request that starts with the byte, or, for FF, which starts none, a request. Answers
 // how many bytes of the output the texts take.
-pub fn show(kind: u8, bytes: &[u8], out: &mut [u8]) -> usize {
+pub fn show<W: Write>(to: &mut W, kind: u8, bytes: &[u8], out: &mut [u8]) -> io::Result<usize> {
     if kind == 0xFF {
-        return request::show(bytes, out);
+        request::show(to, bytes, out)
+    } else {
+        response::show(to, kind, bytes, out)
     }
-    response::show(kind, bytes, out)
 }

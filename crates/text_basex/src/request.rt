@@ -1,39 +1,37 @@
 // A request: its kind, and its strings.
-use crate::text::{accepted, field_if, refused};
-use basex::Found;
+use crate::text::{Texts, refused};
 use basex_request::Requested;
-use text_lines::print::{hex, say};
+use std::io::{self, Write};
 
 fn strings_of(kind: u8) -> usize {
     match basex::find(kind) {
-        Found::Unknown => 0,
-        Found::Known(n, _) => n,
+        Some((n, _)) => n,
+        None => 0,
     }
 }
 
+fn print<W: Write>(to: &mut W, request: Requested, texts: &mut Texts<'_>) -> io::Result<()> {
+    let kind = request.kind;
+    let read = request.read;
+    write!(to, " 0 {read} {kind:02X}")?;
+    let lengths = [request.first, request.second, request.third, request.fourth];
+    for len in lengths.into_iter().take(strings_of(kind)) {
+        texts.field(to, len, ' ')?;
+    }
+    Ok(())
+}
+
 // Answers how many bytes of the output the texts take.
-pub fn show(bytes: &[u8], out: &mut [u8]) -> usize {
+pub fn show<W: Write>(to: &mut W, bytes: &[u8], out: &mut [u8]) -> io::Result<usize> {
     match basex_request::read_request(bytes, out) {
-        Requested::Refused(r) => {
-            refused(r);
-            0
+        Err(r) => {
+            refused(to, r)?;
+            Ok(0)
         }
-        Requested::Read {
-            kind,
-            first,
-            second,
-            third,
-            fourth,
-            read,
-        } => {
-            accepted(read);
-            say(b" ");
-            hex(&[kind]);
-            let n = strings_of(kind);
-            let a = field_if(0 < n, out, 0, first, b' ');
-            let b = field_if(1 < n, out, a, second, b' ');
-            let c = field_if(2 < n, out, b, third, b' ');
-            field_if(3 < n, out, c, fourth, b' ')
+        Ok(request) => {
+            let mut texts = Texts { left: out };
+            print(to, request, &mut texts)?;
+            Ok(out.len().saturating_sub(texts.left.len()))
         }
     }
 }

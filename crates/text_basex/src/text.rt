@@ -1,38 +1,29 @@
 // Decoded texts, which stand one behind the other in an output.
-use text_lines::print::{decimal, hex, say};
-use wire::{Place, Refusal};
+use std::io::{self, Write};
+use text_lines::print::hex;
+use wire::{Refusal, first, rest};
 
-// A sum that stays where it is instead of growing too large.
-pub fn plus(a: usize, b: usize) -> usize {
-    if usize::MAX - a < b { a } else { a + b }
+pub fn refused<W: Write>(to: &mut W, r: Refusal) -> io::Result<()> {
+    let number = r.number();
+    write!(to, " {number}")
 }
 
-pub fn refused(r: Refusal) {
-    say(b" ");
-    decimal(wire::number(r) as u64);
+// The texts that are not printed yet.
+#[derive(Drop)]
+pub struct Texts<'a> {
+    pub left: &'a [u8],
 }
 
-// 0 and how many bytes were read.
-pub fn accepted(read: usize) {
-    say(b" 0 ");
-    decimal(read as u64);
-}
-
-// The text of so many bytes that starts at `at`, behind a sign; answers where the next one starts.
-pub fn field(out: &[u8], at: usize, len: usize, sign: u8) -> usize {
-    say(&[sign]);
-    if len == 0 {
-        say(b"-");
-    } else {
-        hex(wire::part(out, Place { start: at, len }));
+impl<'a> Texts<'a> {
+    // The next text, of so many bytes, behind a sign.
+    pub fn field<W: Write>(&mut self, to: &mut W, len: usize, sign: char) -> io::Result<()> {
+        let text = first(self.left, len);
+        self.left = rest(self.left, len);
+        write!(to, "{sign}")?;
+        if text.is_empty() {
+            to.write_all(b"-")
+        } else {
+            hex(to, text)
+        }
     }
-    plus(at, len)
-}
-
-// The same where it is there at all.
-pub fn field_if(there: bool, out: &[u8], at: usize, len: usize, sign: u8) -> usize {
-    if there {
-        return field(out, at, len, sign);
-    }
-    at
 }

@@ -1,7 +1,7 @@
 -- Answers about the front of an output, and fronts put one behind the other.
+use Rattle.std.specs.Prelude.{Option, Some, None}
 use mathlib.Core.Path.{◌≡◌, refl, sym, ap, subst, ◌∙◌}
 use mathlib.Core.List.{List, [], ◌∷◌, ◌++◌}
-use mathlib.Core.Option.{Option, none, some}
 use Prim.Native.Nat.{ℕ, ◌+◌, ◌-◌, ◌≤◌, ◌<◌}
 use native.Mathlib.Omega.{arith}
 use lib.ListN.{length, take, drop, take-append-drop}
@@ -10,50 +10,48 @@ use borrow.Author.Tests.{lt-ltb, le-ltb}
 use Rattle.wire.specs.Bytes.{splice}
 use Rattle.wire.specs.Call.{put_at}
 use Rattle.wire.proofs.Splices.{splice-splice, length-splice, put_at-fits}
-use Rattle.text_lines.specs.declared.parse.Spelt.{Spelt}
-use Rattle.text_lines.specs.declared.parse.Spelt.TheVariants as spelt
 use Rattle.text_lines.specs.Spelling.{first_of, that_fit, Fronted, Spells}
 
-pub refuses : {d : List ℕ} {n : ℕ} {x : Option (List ℕ)} {e : List ℕ} → x ≡ none → Spells d n x spelt.Not e
-refuses {d} {n} {x} {e} p = subst (λ (y : Option (List ℕ)). Spells d n y spelt.Not e) (sym p) (record { answers = refl; leaves = tt })
+pub refuses : {d : List ℕ} {n : ℕ} {x : Option (List ℕ)} {e : List ℕ} → x ≡ None → Spells d n x None e
+refuses {d} {n} {x} {e} p = subst (λ (y : Option (List ℕ)). Spells d n y None e) (sym p) (record { answers = refl; leaves = tt })
 
-pub answers : {d : List ℕ} {n : ℕ} {x : Option (List ℕ)} {e : List ℕ} {m : ℕ} (t : List ℕ) → x ≡ some t → m ≡ length t → Fronted d n t e → Spells d n x (spelt.Bytes m) e
+pub answers : {d : List ℕ} {n : ℕ} {x : Option (List ℕ)} {e : List ℕ} {m : ℕ} (t : List ℕ) → x ≡ Some t → m ≡ length t → Fronted d n t e → Spells d n x (Some m) e
 answers {d} {n} {x} {e} {m} t p q f =
-    subst (λ (y : Option (List ℕ)). Spells d n y (spelt.Bytes m) e) (sym p) (record { answers = ap spelt.Bytes q; leaves = f })
+    subst (λ (y : Option (List ℕ)). Spells d n y (Some m) e) (sym p) (record { answers = ap Some q; leaves = f })
 
 -- the front that an answer counts
 pub record Found (d : List ℕ) (n : ℕ) (x : Option (List ℕ)) (m : ℕ) (e : List ℕ) : Type 0 where
   pub t : List ℕ
-  pub is : x ≡ some t
+  pub is : x ≡ Some t
   pub long : m ≡ length t
   pub fronted : Fronted d n t e
 
-pub found : {d : List ℕ} {n : ℕ} (x : Option (List ℕ)) {r : Spelt} {e : List ℕ} {m : ℕ} → Spells d n x r e → r ≡ spelt.Bytes m → Found d n x m e
-found none {r} {e} {m} s p =
-    let q : r ≡ spelt.Not = s.answers in
+pub found : {d : List ℕ} {n : ℕ} (x : Option (List ℕ)) {r : Option ℕ} {e : List ℕ} {m : ℕ} → Spells d n x r e → r ≡ Some m → Found d n x m e
+found None {r} {e} {m} s p =
+    let q : r ≡ None = s.answers in
     let z : ◌≡◌ {A = ℕ} 0 1 = cc in
     absurd (omega arith)
-found (some t) {r} {e} {m} s p =
-    let q : r ≡ spelt.Bytes (length t) = s.answers in
+found (Some t) {r} {e} {m} s p =
+    let q : r ≡ Some (length t) = s.answers in
     let l : m ≡ length t = cc in
     record { t = t; is = refl; long = l; fronted = s.leaves }
 
-pub lost : {d : List ℕ} {n : ℕ} (x : Option (List ℕ)) {r : Spelt} {e : List ℕ} → Spells d n x r e → r ≡ spelt.Not → x ≡ none
-lost none s p = refl
-lost (some t) {r} s p =
-    let q : r ≡ spelt.Bytes (length t) = s.answers in
+pub lost : {d : List ℕ} {n : ℕ} (x : Option (List ℕ)) {r : Option ℕ} {e : List ℕ} → Spells d n x r e → r ≡ None → x ≡ None
+lost None s p = refl
+lost (Some t) {r} s p =
+    let q : r ≡ Some (length t) = s.answers in
     cc
 
-pub first_short : (d : List ℕ) (n : ℕ) → length d < n → first_of d n ≡ none
+pub first_short : (d : List ℕ) (n : ℕ) → length d < n → first_of d n ≡ None
 first_short d n h = simp (lt-ltb _ _ h)
 
-pub first-whole : (d : List ℕ) (n : ℕ) → n ≤ length d → first_of d n ≡ some (take n d)
+pub first-whole : (d : List ℕ) (n : ℕ) → n ≤ length d → first_of d n ≡ Some (take n d)
 first-whole d n h = simp (le-ltb _ _ h)
 
-pub room-none : (room : ℕ) (t : List ℕ) → room < length t → that_fit room (some t) ≡ none
+pub room-none : (room : ℕ) (t : List ℕ) → room < length t → that_fit room (Some t) ≡ None
 room-none room t h = simp (lt-ltb _ _ h)
 
-pub room-some : (room : ℕ) (t : List ℕ) → length t ≤ room → that_fit room (some t) ≡ some t
+pub room-some : (room : ℕ) (t : List ℕ) → length t ≤ room → that_fit room (Some t) ≡ Some t
 room-some room t h = simp (le-ltb _ _ h)
 
 -- the front that is there already
@@ -93,16 +91,16 @@ fronted-on {d} {n} {m} {t} {u} {c} {e} f q g =
     record { makes = g.makes ∙ ap (λ (l : List ℕ). splice l 0 u) f.makes ∙ over_longer d t u (omega arith); grows = omega arith; fits = omega arith }
 
 -- an answer about an output that has a front already
-pub spells-on : {d : List ℕ} {n m : ℕ} {t c e : List ℕ} (x : Option (List ℕ)) {r : Spelt} → Fronted d n t c → m ≡ length t → Spells c m x r e → Spells d n x r e
-spells-on none f q s = record { answers = s.answers; leaves = tt }
-spells-on (some u) f q s = record { answers = s.answers; leaves = fronted-on f q s.leaves }
+pub spells-on : {d : List ℕ} {n m : ℕ} {t c e : List ℕ} (x : Option (List ℕ)) {r : Option ℕ} → Fronted d n t c → m ≡ length t → Spells c m x r e → Spells d n x r e
+spells-on None f q s = record { answers = s.answers; leaves = tt }
+spells-on (Some u) f q s = record { answers = s.answers; leaves = fronted-on f q s.leaves }
 
 pub found-on : {d : List ℕ} {n m k : ℕ} {t c e : List ℕ} {x : Option (List ℕ)} → Fronted d n t c → m ≡ length t → (g : Found c m x k e) → Fronted d n g.t e
 found-on f q g = fronted-on f q g.fronted
 
 -- the front that stands there is read back
-pub first-front : {d : List ℕ} {n m : ℕ} {t c : List ℕ} → Fronted d n t c → m ≡ length t → (length c ≡ length d) × (first_of c m ≡ some t)
+pub first-front : {d : List ℕ} {n m : ℕ} {t c : List ℕ} → Fronted d n t c → m ≡ length t → (length c ≡ length d) × (first_of c m ≡ Some t)
 first-front {d} {n} {m} {t} {c} f q =
     let a : length t ≤ length d = f.fits in
     let k : length c ≡ length d = ap length f.makes ∙ length-splice d 0 t (omega arith) in
-    (k, first-whole c m (omega arith) ∙ ap some (ap (λ (i : ℕ). take i c) q ∙ ap (take (length t)) f.makes ∙ take-over d t))
+    (k, first-whole c m (omega arith) ∙ ap Some (ap (λ (i : ℕ). take i c) q ∙ ap (take (length t)) f.makes ∙ take-over d t))

@@ -1,17 +1,16 @@
 -- The loop over pairs of digits.
+use Rattle.std.specs.Prelude.{Option, Some, None}
 use mathlib.Core.Path.{◌≡◌, refl, ap, ◌∙◌}
 use mathlib.Core.List.{List, [], ◌∷◌, ◌++◌}
-use mathlib.Core.Option.{Option, none, some}
 use mathlib.Core.Bool.{Bool, true, false}
 use Prim.Native.Nat.{ℕ, ◌+◌, ◌*◌, ◌/◌, ◌%◌, ◌≤◌, ◌<◌}
 use native.Mathlib.Omega.{arith}
 use lib.Dec.{ltb}
 use lib.ListN.{length, take, drop, get_or, length-append, drop_of_length-le}
 use lib.Seq.{length-take-le}
-use borrow.Author.Tests.{lt-ltb, le-ltb}
+use borrow.Author.Tests.{lt-ltb, le-ltb, ltb-true, ltb-false}
 use Rattle.wire.specs.Bytes.{if, splice}
 use Rattle.wire.specs.Call.{put_at}
-use Rattle.text_lines.specs.declared.parse.Spelt.TheVariants as spelt
 use Rattle.text_lines.specs.Numbers.{digit_of}
 use Rattle.text_lines.specs.Spelling.{and_then, first_of, that_fit, with_pairs, pairs_at, Spells}
 use Rattle.text_lines.proofs.Parts.{drop_here}
@@ -21,18 +20,18 @@ use Rattle.text_lines.proofs.Fronts.{answers, first_short, first-whole, room-non
 abbrev pub byte_of : ℕ → ℕ → ℕ
 byte_of a b = digit_of a * 16 + digit_of b
 
-odd_pairs : (t s : List ℕ) → (length s % 2 ≡ 0 → ⊥) → with_pairs t s ≡ none
+odd_pairs : (t s : List ℕ) → (length s % 2 ≡ 0 → ⊥) → with_pairs t s ≡ None
 unfolding with_pairs
 odd_pairs t [] h = absurd (h refl)
 odd_pairs t (a ∷ []) h = refl
 odd_pairs t (a ∷ b ∷ s) h = by (ltb 15 (digit_of a)) (ltb 15 (digit_of b)) (odd_pairs (t ++ (byte_of a b ∷ [])) s (λ (e : length s % 2 ≡ 0). h (omega arith)))
   where
-    by : (p q : Bool) → with_pairs (t ++ (byte_of a b ∷ [])) s ≡ none → if p none (if q none (with_pairs (t ++ (byte_of a b ∷ [])) s)) ≡ none
+    by : (p q : Bool) → with_pairs (t ++ (byte_of a b ∷ [])) s ≡ None → if p None (if q None (with_pairs (t ++ (byte_of a b ∷ [])) s)) ≡ None
     by true q e = refl
     by false true e = refl
     by false false e = e
 
-long-pairs : (room : ℕ) (t s : List ℕ) → room < length t + length s / 2 → that_fit room (with_pairs t s) ≡ none
+long-pairs : (room : ℕ) (t s : List ℕ) → room < length t + length s / 2 → that_fit room (with_pairs t s) ≡ None
 unfolding with_pairs
 long-pairs room t [] h = room-none room t (omega arith)
 long-pairs room t (a ∷ []) h = refl
@@ -40,26 +39,28 @@ long-pairs room t (a ∷ b ∷ s) h =
     let l = length-append t (byte_of a b ∷ []) in
     by (ltb 15 (digit_of a)) (ltb 15 (digit_of b)) (long-pairs room (t ++ (byte_of a b ∷ [])) s (omega arith))
   where
-    by : (p q : Bool) → that_fit room (with_pairs (t ++ (byte_of a b ∷ [])) s) ≡ none → that_fit room (if p none (if q none (with_pairs (t ++ (byte_of a b ∷ [])) s))) ≡ none
+    by : (p q : Bool) → that_fit room (with_pairs (t ++ (byte_of a b ∷ [])) s) ≡ None → that_fit room (if p None (if q None (with_pairs (t ++ (byte_of a b ∷ [])) s))) ≡ None
     by true q e = refl
     by false true e = refl
     by false false e = e
 
-after_none : (f : List ℕ → Option (List ℕ)) (o : Option (List ℕ)) → ((t : List ℕ) → f t ≡ none) → and_then o f ≡ none
-after_none f none h = refl
-after_none f (some t) h = h t
+after_none : (f : List ℕ → Option (List ℕ)) (o : Option (List ℕ)) → ((t : List ℕ) → f t ≡ None) → and_then o f ≡ None
+after_none f None h = refl
+after_none f (Some t) h = h t
 
 module _ (d : List ℕ) (n : ℕ) (s : List ℕ) where
-  pub pairs_odd : (length s % 2 ≡ 0 → ⊥) → pairs_at d n s ≡ none
+  pub pairs_odd : (length s % 2 ≡ 0 → ⊥) → pairs_at d n s ≡ None
   pairs_odd h = after_none (λ t. that_fit (length d) (with_pairs t s)) (first_of d n) (λ t. ap (that_fit (length d)) (odd_pairs t s h))
 
-  pub pairs-short : length d < n → pairs_at d n s ≡ none
-  pairs-short h = rw (first_short d n h)
-
-  pub pairs-long : n ≤ length d → length d < n + length s / 2 → pairs_at d n s ≡ none
-  pairs-long h k =
-      let l = length-take-le n d h in
-      rw (first-whole d n h) (long-pairs (length d) (take n d) s (omega arith))
+  pub pairs-long : length d < n + length s / 2 → pairs_at d n s ≡ None
+  pairs-long k = by (ltb (length d) n) refl
+    where
+      by : (b : Bool) → ltb (length d) n ≡ b → pairs_at d n s ≡ None
+      by true e = rw (first_short d n (ltb-true _ _ e))
+      by false e =
+          let h = ltb-false _ _ e in
+          let l = length-take-le n d h in
+          rw (first-whole d n h) (long-pairs (length d) (take n d) s (omega arith))
 
 two : (s : List ℕ) (i : ℕ) → 2 * i + 1 < length s → drop (2 * i) s ≡ get_or s (2 * i) 0 ∷ get_or s (2 * i + 1) 0 ∷ drop (2 * (i + 1)) s
 two s i h =
@@ -80,11 +81,11 @@ paired_start d n s h =
 
 module _ {d : List ℕ} {n : ℕ} {s out : List ℕ} {i : ℕ} (p : Paired d n s out i) where
   module _ (h : 2 * i + 1 < length s) where
-    pub high_bad : 15 < digit_of (get_or s (2 * i) 0) → pairs_at d n s ≡ none
+    pub high_bad : 15 < digit_of (get_or s (2 * i) 0) → pairs_at d n s ≡ None
     unfolding with_pairs
     high_bad a = p.left ∙ rw (two s i h) (simp (lt-ltb _ _ a))
 
-    pub low_bad : digit_of (get_or s (2 * i) 0) ≤ 15 → 15 < digit_of (get_or s (2 * i + 1) 0) → pairs_at d n s ≡ none
+    pub low_bad : digit_of (get_or s (2 * i) 0) ≤ 15 → 15 < digit_of (get_or s (2 * i + 1) 0) → pairs_at d n s ≡ None
     unfolding with_pairs
     low_bad a b = p.left ∙ rw (two s i h) (simp (le-ltb _ _ a, lt-ltb _ _ b))
 
@@ -106,7 +107,7 @@ module _ {d : List ℕ} {n : ℕ} {s out : List ℕ} {i : ℕ} (p : Paired d n s
           left = p.left ∙ ap (that_fit (length d)) (pair-on a b);
         }
 
-  pub paired_end : (m : ℕ) → length s ≤ 2 * i → m ≡ n + i → n + i ≤ length d → Spells d n (pairs_at d n s) (spelt.Bytes m) out
+  pub paired_end : (m : ℕ) → length s ≤ 2 * i → m ≡ n + i → n + i ≤ length d → Spells d n (pairs_at d n s) (Some m) out
   unfolding with_pairs
   paired_end m h q r =
       let k : length p.t ≡ n + i = p.long in

@@ -1,16 +1,19 @@
 -- What stands before and behind a byte, found index by index.
-use mathlib.Core.Path.{◌≡◌, refl, sym, ap, ◌∙◌}
+use Rattle.std.specs.Prelude.{Some, None}
+use mathlib.Core.Path.{◌≡◌, refl, sym, ap, subst, ◌∙◌}
 use mathlib.Core.List.{List, [], ◌∷◌}
-use mathlib.Core.Bool.{Bool, true, false}
+use mathlib.Core.Bool.{Bool, true, false, not}
 use Prim.Native.Nat.{ℕ, suc, ◌+◌, ◌-◌, ◌≤◌, ◌<◌}
 use native.Mathlib.Numerals.{add-one}
 use native.Mathlib.Omega.{arith}
-use lib.Dec.{eqb}
+use lib.Dec.{eqb, ltb}
 use lib.ListN.{length, take, drop, get_or, length-drop, drop_of_length-le}
 use lib.Seq.{drop-cons, take_all}
-use borrow.Author.Tests.{eq-eqb, ne_eqb}
+use borrow.Author.Tests.{ltb-false}
+use Rattle.std.specs.List.{position, position_or_len}
+use Rattle.std.specs.Prelude.{cond}
 use Rattle.wire.specs.Bytes.{if}
-use Rattle.text_lines.specs.Cuts.{before_first, behind_first, space, without_space}
+use Rattle.text_lines.specs.Cuts.{before_first, behind_first}
 
 -- the byte at i, and what is behind it
 pub drop_here : (s : List ℕ) (i : ℕ) → i < length s → drop i s ≡ get_or s i 0 ∷ drop (i + 1) s
@@ -22,18 +25,15 @@ to_end s i =
     let l = length-drop i s in
     take_all (length s - i) (drop i s) (omega arith)
 
-module _ (b : ℕ) (s : List ℕ) where
-  pub before_here : (i : ℕ) → i < length s → get_or s i 0 ≡ b → length (before_first b (drop i s)) ≡ 0
-  unfolding before_first
-  before_here i h e = rw (drop_here s i h) (simp (eq-eqb _ _ e))
-
-  pub before_past : (i : ℕ) → i < length s → (get_or s i 0 ≡ b → ⊥) → length (before_first b (drop i s)) ≡ suc (length (before_first b (drop (i + 1) s)))
-  unfolding before_first
-  before_past i h n = rw (drop_here s i h) (simp (ne_eqb _ _ n))
-
-  pub before-end : (i : ℕ) → length s ≤ i → length (before_first b (drop i s)) ≡ 0
-  unfolding before_first
-  before-end i h = rw (drop_of_length-le s h)
+index_before : (b : ℕ) (s : List ℕ) → position_or_len (λ x. eqb x b) s ≡ length (before_first b s)
+unfolding before_first
+index_before b [] = refl
+index_before b (x ∷ s) = by (eqb x b) (index_before b s)
+  where
+    by : (t : Bool) → position_or_len (λ x. eqb x b) s ≡ length (before_first b s)
+        → cond (not t) (1 + position_or_len (λ x. eqb x b) s) 0 ≡ length (if t [] (x ∷ before_first b s))
+    by true e = refl
+    by false e = omega arith
 
 pub take-before : (b : ℕ) (s : List ℕ) → take (length (before_first b s)) s ≡ before_first b s
 unfolding before_first
@@ -53,33 +53,61 @@ drop-before b (x ∷ s) = by (eqb x b) (drop-before b s)
     by true e = refl
     by false e = e
 
-module _ (b : ℕ) (s : List ℕ) (n : ℕ) (e : n ≡ length (before_first b s)) where
-  pub front_cut : take (n - 0) (drop 0 s) ≡ before_first b s
-  front_cut =
-      let f : n - 0 ≡ length (before_first b s) = omega arith in
-      rw f (take-before b s)
+-- where the first b is, if it is anywhere
+by_index : (k m n : ℕ) → cond (ltb k m) (Some k) None ≡ Some n → n ≡ k
+by_index k m n e = by (ltb k m) e
+  where
+    by : (t : Bool) → cond t (Some k) None ≡ Some n → n ≡ k
+    by true e = cc
+    by false e = cc
 
-  pub behind-cut : take (length s - (n + 1)) (drop (n + 1) s) ≡ behind_first b s
-  behind-cut =
-      let f : n + 1 ≡ suc (length (before_first b s)) = omega arith in
-      to_end s (n + 1) ∙ ap (λ (k : ℕ). drop k s) f ∙ drop-before b s
+by_none : (k m : ℕ) → cond (ltb k m) (Some k) None ≡ None → m ≤ k
+by_none k m e = by (ltb k m) refl e
+  where
+    by : (t : Bool) → ltb k m ≡ t → cond t (Some k) None ≡ None → m ≤ k
+    by true p e = cc
+    by false p e = ltb-false k m p
 
-  pub behind-end : length s ≤ n → take (length s - n) (drop n s) ≡ behind_first b s
-  behind-end h =
-      let k : length s ≤ suc (length (before_first b s)) = omega arith in
-      to_end s n ∙ drop_of_length-le s h ∙ sym (drop_of_length-le s k) ∙ drop-before b s
+module _ (b : ℕ) (s : List ℕ) where
+  module _ (n : ℕ) (e : position (λ x. eqb x b) s ≡ Some n) where
+    index : n ≡ length (before_first b s)
+    index = by_index _ (length s) n e ∙ index_before b s
 
-pub space-cut : (s : List ℕ) → 0 < length s → get_or s 0 0 ≡ space → take (length s - 1) (drop 1 s) ≡ without_space s
-unfolding without_space
-space-cut [] h e = absurd (omega arith)
-space-cut (x ∷ s) h e = to_end (x ∷ s) 1 ∙ simp (eq-eqb x space e)
+    pub front_cut : take n s ≡ before_first b s
+    front_cut = rw index (take-before b s)
 
-pub no-space : (s : List ℕ) → (get_or s 0 0 ≡ space → ⊥) → s ≡ without_space s
-unfolding without_space
-no-space [] n = refl
-no-space (x ∷ s) n = simp (ne_eqb x space n)
+    pub behind-cut : drop (n + 1) s ≡ behind_first b s
+    behind-cut =
+        let f : n + 1 ≡ suc (length (before_first b s)) = omega (arith, index) in
+        rw f (drop-before b s)
 
-pub nothing-cut : (s : List ℕ) → length s ≤ 0 → s ≡ without_space s
-unfolding without_space
-nothing-cut [] h = refl
-nothing-cut (x ∷ s) h = absurd (omega arith)
+  module _ (e : position (λ x. eqb x b) s ≡ None) where
+    past : length s ≤ length (before_first b s)
+    past = subst (λ (k : ℕ). length s ≤ k) (index_before b s) (by_none _ (length s) e)
+
+    pub front-whole : s ≡ before_first b s
+    front-whole = sym (take_all _ s past) ∙ take-before b s
+
+    pub behind-end : [] ≡ behind_first b s
+    behind-end =
+        let k : length s ≤ suc (length (before_first b s)) = omega (arith, past) in
+        sym (drop_of_length-le s k) ∙ drop-before b s
+
+behind_within : (b : ℕ) (s : List ℕ) → length (behind_first b s) ≤ length s
+unfolding behind_first
+behind_within b [] = omega arith
+behind_within b (x ∷ s) = by (eqb x b) (behind_within b s)
+  where
+    by : (t : Bool) → length (behind_first b s) ≤ length s → length (if t s (behind_first b s)) ≤ suc (length s)
+    by true h = omega arith
+    by false h = omega arith
+
+-- each part takes a byte at least off a text
+pub behind_shorter : (b : ℕ) (s : List ℕ) → 0 < length s → length (behind_first b s) < length s
+unfolding behind_first
+behind_shorter b [] h = absurd (omega arith)
+behind_shorter b (x ∷ s) h = by (eqb x b) (behind_within b s)
+  where
+    by : (t : Bool) → length (behind_first b s) ≤ length s → length (if t s (behind_first b s)) < suc (length s)
+    by true h = omega arith
+    by false h = omega arith

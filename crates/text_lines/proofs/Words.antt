@@ -1,15 +1,14 @@
 -- The words of a text, found one behind the other.
-use mathlib.Core.Path.{◌≡◌, refl, sym, ap, ◌∙◌}
+use mathlib.Core.Path.{◌≡◌, refl, ap, ◌∙◌}
 use mathlib.Core.List.{List, [], ◌∷◌}
 use mathlib.Core.Bool.{Bool, true, false}
-use Prim.Native.Nat.{ℕ, suc, ◌+◌, ◌-◌, ◌≤◌, ◌<◌}
+use Prim.Native.Nat.{ℕ, suc, ◌<◌}
 use native.Mathlib.Omega.{arith}
 use lib.Dec.{eqb}
-use lib.ListN.{length, take, drop, drop_of_length-le}
-use lib.Seq.{drop-drop}
+use lib.ListN.{length}
 use Rattle.wire.specs.Bytes.{if}
-use Rattle.text_lines.specs.Cuts.{before_first, behind_first, space, same_bytes, onto, words_of, ahead_of}
-use Rattle.text_lines.proofs.Parts.{drop_here, drop-before, to_end}
+use Rattle.text_lines.specs.Cuts.{before_first, behind_first, space, same_bytes, TakesPart, onto, words_of, ahead_of}
+use Rattle.text_lines.proofs.Parts.{behind_shorter}
 
 words_cons : (x : ℕ) (s : List ℕ) → words_of (x ∷ s) ≡ before_first space (x ∷ s) ∷ words_of (behind_first space (x ∷ s))
 unfolding before_first behind_first words_of
@@ -25,28 +24,31 @@ words_cons x (y ∷ s) = by (eqb x space) (words_cons y s)
     by true e = refl
     by false e = ap (onto x) e
 
-module _ (s : List ℕ) (at : ℕ) where
-  -- the word at `at`, and the words behind it
-  pub words_on : (one : List ℕ) → at < length s → one ≡ before_first space (take (length s - at) (drop at s)) → words_of (drop at s) ≡ one ∷ words_of (drop (at + (length one + 1)) s)
-  words_on one h e =
-      let first : before_first space (drop at s) ≡ one = ap (before_first space) (sym (to_end s at)) ∙ sym e in
-      let more : length one + 1 ≡ suc (length one) = omega arith in
-      rw (← drop-drop (length one + 1) at s, more, ← first, drop-before space (drop at s)) (rw (drop_here s at h) (words_cons _ _))
+-- a part that is taken off the front is the first word
+module _ {b : ℕ} {s part left : List ℕ} (p : TakesPart b s part left) where
+  pub takes-shorter : length left < length s
+  takes-shorter = omega (arith, behind_shorter b s p.some, ap length p.behind)
 
-  pub words_end : length s ≤ at → words_of (drop at s) ≡ []
-  unfolding words_of
-  words_end h = rw (drop_of_length-le s h)
+  pub words_on : b ≡ space → words_of s ≡ part ∷ words_of left
+  words_on e = by s p.some (p.ahead ∙ ap (λ (c : ℕ). before_first c s) e) (p.behind ∙ ap (λ (c : ℕ). behind_first c s) e)
+    where
+      by : (r : List ℕ) → 0 < length r → part ≡ before_first space r → left ≡ behind_first space r → words_of r ≡ part ∷ words_of left
+      by [] h q l = absurd (omega arith)
+      by (x ∷ r) h q l = rw (q, l) (words_cons x r)
 
-  -- `one` is the word at `at`
-  module _ (w one : List ℕ) (h : at < length s) (e : one ≡ before_first space (take (length s - at) (drop at s))) where
-    pub ahead_here : same_bytes one w ≡ true → ahead_of w (words_of (drop at s)) ≡ 0
-    unfolding ahead_of
-    ahead_here q = rw (words_on one h e) (simp q)
-
-    pub ahead-on : same_bytes one w ≡ false → ahead_of w (words_of (drop at s)) ≡ suc (ahead_of w (words_of (drop (at + (length one + 1)) s)))
-    unfolding ahead_of
-    ahead-on q = rw (words_on one h e) (simp q)
-
-  pub ahead-end : (w : List ℕ) → length s ≤ at → ahead_of w (words_of (drop at s)) ≡ 0
+  pub ahead_here : (w : List ℕ) → b ≡ space → same_bytes part w ≡ true → ahead_of w (words_of s) ≡ 0
   unfolding ahead_of
-  ahead-end w h = rw (words_end h)
+  ahead_here w e q = rw (words_on e) (simp q)
+
+  pub ahead-on : (w : List ℕ) → b ≡ space → same_bytes part w ≡ false → ahead_of w (words_of s) ≡ suc (ahead_of w (words_of left))
+  unfolding ahead_of
+  ahead-on w e q = rw (words_on e) (simp q)
+
+module _ {s : List ℕ} (e : s ≡ []) where
+  pub words_end : words_of s ≡ []
+  unfolding words_of
+  words_end = rw e
+
+  pub ahead-end : (w : List ℕ) → ahead_of w (words_of s) ≡ 0
+  unfolding ahead_of
+  ahead-end w = rw words_end

@@ -1,6 +1,7 @@
 -- Parts of text: what stands before and behind a byte, words, and whether two texts are the same.
 use mathlib.Core.{Bool.Bool, Bool.true, Bool.false, List.List, List.[], List.◌∷◌}
-use Rattle.std.specs.Prelude.{ℕ, suc, eqb}
+use Rattle.std.specs.Prelude.{ℕ, suc, eqb, length, ◌<◌}
+use mathlib.Core.Path.{◌≡◌}
 use Rattle.wire.specs.Bytes.{if}
 
 -- all before the first b; the whole where there is none
@@ -12,6 +13,12 @@ before_first b (x ∷ s) = if (eqb x b) [] (x ∷ before_first b s)
 unfoldable pub behind_first : ℕ → List ℕ → List ℕ
 behind_first b [] = []
 behind_first b (x ∷ s) = if (eqb x b) s (behind_first b s)
+
+-- a part taken off the front of a text that is not empty: all before the first b, and what is left is all behind it
+pub record TakesPart (b : ℕ) (s part left : List ℕ) : Type 0 where
+  pub some : 0 < length s
+  pub ahead : part ≡ before_first b s
+  pub behind : left ≡ behind_first b s
 
 -- the byte between two words
 abbrev pub space : ℕ

@@ -1,9 +1,9 @@
 -- Numbers that text spells.
+use Rattle.std.specs.Prelude.{Option, Some, None}
 use mathlib.Core.{Bool.Bool, Bool.true, Bool.false, List.List, List.[], List.◌∷◌}
 use Rattle.std.specs.Prelude.{ℕ, ◌+◌, ◌*◌, ◌-◌}
 use lib.{Dec.eqb, Dec.ltb, ListN.length}
 use Rattle.wire.specs.Bytes.{if, between}
-use Rattle.text_lines.specs.{declared.parse.Byte.Byte, declared.parse.Number.Number}
 
 -- a digit's value, 0 to 9, A to F or a to f; 16 for any other byte
 unfoldable pub digit_of : ℕ → ℕ
@@ -20,18 +20,18 @@ with_digits n [] = n
 with_digits n (b ∷ s) = with_digits (n * 10 + digit_of b) s
 
 -- a number that an int can hold
-abbrev pub in_int : ℕ → Number
-in_int n = if (ltb 4294967295 n) Number.Not (Number.Is n)
+abbrev pub in_int : ℕ → Option ℕ
+in_int n = if (ltb 4294967295 n) None (Some n)
 
 -- the number that a text of decimal digits spells, where it has one at least and an int can hold it
-unfoldable pub decimal_of : List ℕ → Number
-decimal_of s = if (eqb (length s) 0) Number.Not (if (all_decimal s) (in_int (with_digits 0 s)) Number.Not)
+unfoldable pub decimal_of : List ℕ → Option ℕ
+decimal_of s = if (eqb (length s) 0) None (if (all_decimal s) (in_int (with_digits 0 s)) None)
 
 -- a number that a byte can hold
-unfoldable pub in_byte : Number → Byte
-in_byte Number.Not = Byte.Not
-in_byte (Number.Is n) = if (ltb 255 n) Byte.Not (Byte.Is n)
+unfoldable pub in_byte : Option ℕ → Option ℕ
+in_byte None = None
+in_byte (Some n) = if (ltb 255 n) None (Some n)
 
 -- the number that a text spells so, where a byte can hold it
-unfoldable pub decimal_byte_of : List ℕ → Byte
+unfoldable pub decimal_byte_of : List ℕ → Option ℕ
 decimal_byte_of s = in_byte (decimal_of s)

@@ -1,67 +1,83 @@
 // Parts of text and of bytes, and comparing them.
-ghost use Rattle.std.specs.Prelude.{◌≡◌, ◌≤◌, length};
-ghost use Rattle.text_lines.specs.Cuts.{before_first, behind_first, without_space, same_bytes, words_of, ahead_of, behind_words};
+ghost use Rattle.std.specs.Prelude.{◌≡◌, ◌==◌, ◌≤◌, [], length, position, MatchOption};
+ghost use Rattle.std.specs.Iterator.{at_most};
+ghost use Rattle.text_lines.specs.Cuts.{TakesPart, before_first, behind_first, without_space, same_bytes, words_of, ahead_of, behind_words};
 
-// The index of the first b, or the length where there is none.
-fn find(s: &[u8], b: u8) -> usize
-    ensures { (result ≡ length (before_first b s.now)) × (result ≤ length s.now) }
+// The index of the first b.
+fn find(s: &[u8], b: u8) -> Option<usize>
+    ensures { result ≡ position (λ x. x == b) s.now }
 {
-    let mut i = 0;
-    while i < s.len() {
-        if s[i] == b {
-            return i;
-        }
-        i += 1;
-    }
-    i
+    s.iter().position(|x| *x == b)
 }
 
 // All before the first b. A loop over such parts ends because none is longer than what it is of.
 pub fn front(s: &[u8], b: u8) -> &[u8]
     ensures { (result.now ≡ before_first b s.now) × (length result.now ≤ length s.now) }
 {
-    let n = find(s, b);
-    &s[0..n]
+    match find(s, b) {
+        Some(n) => &s[..n],
+        None => s,
+    }
 }
 
 // All behind the first b; nothing where there is none.
 pub fn behind(s: &[u8], b: u8) -> &[u8]
     ensures { result.now ≡ behind_first b s.now }
 {
-    let n = find(s, b);
-    if n < s.len() {
-        let from = n + 1;
-        return &s[from..];
+    match find(s, b) {
+        Some(n) => &s[n + 1..],
+        None => &[],
     }
-    &s[n..]
 }
 
 // Without a space in front.
+#[tactic(auto, unfolding(crate::specs::Cuts::without_space))]
 pub fn trimmed(s: &[u8]) -> &[u8]
     ensures { result.now ≡ without_space s.now }
 {
-    if 0 < s.len() {
-        if s[0] == b' ' {
-            return &s[1..];
-        }
+    match s {
+        [b' ', more @ ..] => more,
+        _ => s,
     }
-    s
 }
 
 pub fn same(a: &[u8], b: &[u8]) -> bool
     ensures { result ≡ same_bytes a.now b.now }
 {
-    if a.len() != b.len() {
-        return false;
-    }
-    let mut i = 0;
-    while i < a.len() {
-        if a[i] != b[i] {
-            return false;
+    a == b
+}
+
+// The parts of a text, each ended by a byte or by the end of the text; an empty text has none.
+#[derive(Drop)]
+pub struct Parts<'a> {
+    rest: &'a [u8],
+    end: u8,
+}
+
+impl<'a> Iterator for Parts<'a> {
+    type Item = &'a [u8];
+
+    ghost remaining = { λ s. at_most (length s.rest.now) };
+
+    ghost next_gives = { λ s r t. MatchOption r (s.rest.now ≡ []) (λ part. TakesPart s.end s.rest.now part.now t.rest.now × (t.end ≡ s.end)) };
+
+    #[tactic(auto, using(crate::proofs::Parts::behind_shorter))]
+    fn next(&mut self) -> Option<&'a [u8]> {
+        if self.rest.is_empty() {
+            return None;
         }
-        i += 1;
+        let part = front(self.rest, self.end);
+        self.rest = behind(self.rest, self.end);
+        Some(part)
     }
-    true
+}
+
+impl<'a> Parts<'a> {
+    pub fn of(text: &'a [u8], end: u8) -> Parts<'a>
+        ensures { (result.rest.now ≡ text.now) × (result.end ≡ end) }
+    {
+        Parts { rest: text, end }
+    }
 }
 
 // Which of some words a word is, counted from 0; their count where it is none of them.
@@ -69,28 +85,23 @@ pub fn position(words: &[u8], word: &[u8]) -> usize
     ensures { result ≡ ahead_of word.now (words_of words.now) }
 {
     let mut k = 0;
-    let mut at = 0;
-    while at < words.len() {
-        let one = front(&words[at..], b' ');
+    for one in Parts::of(words, b' ') {
         if same(one, word) {
             return k;
         }
-        at += one.len() + 1;
         k += 1;
     }
     k
 }
 
 // All behind the first n words, of which a line has two at most.
+#[tactic(auto, unfolding(crate::specs::Cuts::behind_words))]
 pub fn skip(words: &[u8], n: usize) -> &[u8]
     ensures { result.now ≡ behind_words n words.now }
 {
-    if n == 0 {
-        return words;
+    match n {
+        0 => words,
+        1 => behind(words, b' '),
+        _ => behind(behind(words, b' '), b' '),
     }
-    let one = behind(words, b' ');
-    if n == 1 {
-        return one;
-    }
-    behind(one, b' ')
 }

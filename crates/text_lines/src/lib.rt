@@ -3,6 +3,7 @@
 // proved to do nothing undefined and to end, and promises no more.
 #![tactic(auto)]
 
+pub mod answers;
 pub mod cut;
 pub mod input;
 pub mod lent;

@@ -1,61 +1,54 @@
 // The messages' names, as in the table of instructions and bodies.
-use text_lines::names::entry;
-use text_lines::print;
-use text_lines::print::say;
+use sedna::names;
 
-const NAMES: [u8; 785] = *b"100 ErrorResponse
-110 StartUp
-120 SessionParameters
-130 AuthenticationParameters
-140 SendSessionParameters
-150 SendAuthParameters
-160 AuthenticationOk
-170 AuthenticationFailed
-210 Begin
-220 Commit
-225 Rollback
-230 BeginOk
-240 BeginFailed
-250 CommitOk
-255 RollbackOk
-260 CommitFailed
-265 RollbackFailed
-300 Execute
-301 ExecuteLong
-302 LongQueryEnd
-310 GetNextItem
-320 QuerySucceeded
-325 DebugInfo
-330 QueryFailed
-340 UpdateSucceeded
-350 UpdateFailed
-355 ItemStart
-360 ItemPart
-370 ItemEnd
-375 ResultEnd
-400 BulkLoadError
-410 BulkLoadPortion
-420 BulkLoadEnd
-430 BulkLoadFileName
-431 BulkLoadFromStream
-440 BulkLoadSucceeded
-450 BulkLoadFailed
-451 ShowTime
-452 LastQueryTime
-500 Close
-510 CloseOk
-520 RollbackBeforeClose
-530 SetOptions
-540 SetOptionsOk
-550 ResetOptions
-560 ResetOptionsOk";
-
-pub fn name(instruction: u32) {
-    entry(&NAMES, instruction);
-}
-
-pub fn message(instruction: u32) {
-    print::decimal(instruction as u64);
-    say(b" ");
-    name(instruction);
+pub fn name(instruction: u32) -> &'static str {
+    match instruction {
+        names::ERROR_RESPONSE => "ErrorResponse",
+        names::START_UP => "StartUp",
+        names::SESSION_PARAMETERS => "SessionParameters",
+        names::AUTHENTICATION_PARAMETERS => "AuthenticationParameters",
+        names::SEND_SESSION_PARAMETERS => "SendSessionParameters",
+        names::SEND_AUTH_PARAMETERS => "SendAuthParameters",
+        names::AUTHENTICATION_OK => "AuthenticationOk",
+        names::AUTHENTICATION_FAILED => "AuthenticationFailed",
+        names::BEGIN => "Begin",
+        names::COMMIT => "Commit",
+        names::ROLLBACK => "Rollback",
+        names::BEGIN_OK => "BeginOk",
+        names::BEGIN_FAILED => "BeginFailed",
+        names::COMMIT_OK => "CommitOk",
+        names::ROLLBACK_OK => "RollbackOk",
+        names::COMMIT_FAILED => "CommitFailed",
+        names::ROLLBACK_FAILED => "RollbackFailed",
+        names::EXECUTE => "Execute",
+        names::EXECUTE_LONG => "ExecuteLong",
+        names::LONG_QUERY_END => "LongQueryEnd",
+        names::GET_NEXT_ITEM => "GetNextItem",
+        names::QUERY_SUCCEEDED => "QuerySucceeded",
+        names::DEBUG_INFO => "DebugInfo",
+        names::QUERY_FAILED => "QueryFailed",
+        names::UPDATE_SUCCEEDED => "UpdateSucceeded",
+        names::UPDATE_FAILED => "UpdateFailed",
+        names::ITEM_START => "ItemStart",
+        names::ITEM_PART => "ItemPart",
+        names::ITEM_END => "ItemEnd",
+        names::RESULT_END => "ResultEnd",
+        names::BULK_LOAD_ERROR => "BulkLoadError",
+        names::BULK_LOAD_PORTION => "BulkLoadPortion",
+        names::BULK_LOAD_END => "BulkLoadEnd",
+        names::BULK_LOAD_FILE_NAME => "BulkLoadFileName",
+        names::BULK_LOAD_FROM_STREAM => "BulkLoadFromStream",
+        names::BULK_LOAD_SUCCEEDED => "BulkLoadSucceeded",
+        names::BULK_LOAD_FAILED => "BulkLoadFailed",
+        names::SHOW_TIME => "ShowTime",
+        names::LAST_QUERY_TIME => "LastQueryTime",
+        names::CLOSE => "Close",
+        names::CLOSE_OK => "CloseOk",
+        names::ROLLBACK_BEFORE_CLOSE => "RollbackBeforeClose",
+        names::SET_OPTIONS => "SetOptions",
+        names::SET_OPTIONS_OK => "SetOptionsOk",
+        names::RESET_OPTIONS => "ResetOptions",
+        names::RESET_OPTIONS_OK => "ResetOptionsOk",
+        _ => "NO NAME",
+    }
 }

@@ -1,12 +1,17 @@
 // Writes a message that is told by the places of its fields, through the writer of its shape.
-use sedna_read::{OptionPlace, Places, UrlPlace};
+use sedna_read::Places;
 use text_lines::parse::SPACE;
-use wire::{Counted, Place, part};
+use wire::{Place, Refusal, first, part};
 
 // A body has at most 1,137 options.
 const MOST: usize = 1200;
 
-pub fn message(out: &mut [u8], bytes: &[u8], instruction: u32, places: Places) -> Counted {
+pub fn message(
+    out: &mut [u8],
+    bytes: &[u8],
+    instruction: u32,
+    places: Places,
+) -> Result<usize, Refusal> {
     match places {
         Places::Empty => sedna_write::write_empty(out, instruction),
         Places::Session {
@@ -41,76 +46,56 @@ fn item(
     instruction: u32,
     class: u8,
     kind: u8,
-    url: UrlPlace,
+    url: Option<Place>,
     last: Place,
-) -> Counted {
-    let p = part(bytes, last);
+) -> Result<usize, Refusal> {
+    let last = part(bytes, last);
     match url {
-        UrlPlace::Absent => sedna_write::write_item(out, instruction, class, kind, p),
-        UrlPlace::At(u) => {
-            sedna_write::write_item_url(out, instruction, class, kind, part(bytes, u), p)
+        Some(url) => {
+            sedna_write::write_item_url(out, instruction, class, kind, part(bytes, url), last)
         }
+        None => sedna_write::write_item(out, instruction, class, kind, last),
     }
 }
 
 // The writer takes options as lists. Where these are too short it is 0 written, which the library
-// never answers.
-fn options(out: &mut [u8], bytes: &[u8], instruction: u32, pairs: Place, count: usize) -> Counted {
+// never answers, and no refusal: those are the library's.
+fn options(
+    out: &mut [u8],
+    bytes: &[u8],
+    instruction: u32,
+    pairs: Place,
+    count: usize,
+) -> Result<usize, Refusal> {
+    // An array: no heap, as in the library.
     let mut ids = [0u32; MOST];
     let mut lengths = [0usize; MOST];
     let mut values = [0u8; SPACE];
     if MOST < count {
-        return Counted::Count(0);
+        return Ok(0);
     }
-    let n = gather(bytes, pairs, count, &mut ids, &mut lengths, &mut values);
-    let all = part(&values, Place { start: 0, len: n });
-    sedna_write::write_options(out, instruction, &ids[0..count], &lengths[0..count], all)
-}
-
-// The options as lists; answers how many bytes the values have.
-fn gather(
-    bytes: &[u8],
-    pairs: Place,
-    count: usize,
-    ids: &mut [u32],
-    lengths: &mut [usize],
-    values: &mut [u8],
-) -> usize {
-    let mut n = 0;
-    let mut k = 0;
-    while k < count {
-        match sedna_read::option_at(bytes, pairs, k) {
-            OptionPlace::Missing => return n,
-            OptionPlace::At { id, value } => {
-                let v = part(bytes, value);
-                set_id(ids, k, id);
-                set_length(lengths, k, v.len());
-                n = append(values, n, v);
-            }
-        }
-        k += 1;
+    let mut end = 0;
+    for k in 0..count {
+        let Some(option) = sedna_read::option_at(bytes, pairs, k) else {
+            break;
+        };
+        let value = part(bytes, option.value);
+        ids[k] = option.id;
+        lengths[k] = value.len();
+        end = append(&mut values, end, value);
     }
-    n
-}
-
-fn set_id(ids: &mut [u32], k: usize, id: u32) {
-    if k < ids.len() {
-        ids[k] = id;
-    }
-}
-
-fn set_length(lengths: &mut [usize], k: usize, n: usize) {
-    if k < lengths.len() {
-        lengths[k] = n;
-    }
+    sedna_write::write_options(
+        out,
+        instruction,
+        &ids[0..count],
+        &lengths[0..count],
+        first(&values, end),
+    )
 }
 
 // Puts a value behind the first n bytes; answers how many there are then.
 fn append(values: &mut [u8], n: usize, value: &[u8]) -> usize {
-    if values.len() < n {
-        return n;
-    }
-    if values.len() - n < value.len() {
+    if !wire::has_room(values.len(), n, value.len()) {
         return n;
     }
     wire::put_bytes(values, n, value);

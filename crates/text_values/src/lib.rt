@@ -1,55 +1,41 @@
 // Prints typed values. No part of the library: what programs share.
 #![tactic(auto)]
 
-use sedna_instant::Instant;
-use sedna_value::{Value, Valued};
-use text_lines::print::{decimal, hex_u64, say, signed};
+use sedna_value::Value;
+use std::io::{self, Write};
 use wire::Refusal;
 
-// Seconds and nanoseconds.
-fn say_instant(at: Instant) {
-    say(b"instant ");
-    signed(at.seconds);
-    say(b" ");
-    decimal(at.nanos as u64);
-}
-
-fn say_boolean(yes: bool) {
-    if yes {
-        say(b"yes");
-    } else {
-        say(b"no");
+pub fn value<W: Write>(out: &mut W, value: Value) -> io::Result<()> {
+    match value {
+        Value::Whole(n) => write!(out, "whole {n}"),
+        Value::At(at) => {
+            let seconds = at.seconds;
+            let nanos = at.nanos;
+            write!(out, "instant {seconds} {nanos}")
+        }
+        Value::Boolean(yes) => out.write_all(if yes { b"yes" } else { b"no" }),
+        Value::Double(x) => double(out, x),
     }
 }
 
 // The sixteen digits of its bits. No value is a NaN, whose bits would be undefined.
-fn say_double(x: f64) {
-    say(b"double ");
+fn double<W: Write>(out: &mut W, x: f64) -> io::Result<()> {
     if x == x {
-        hex_u64(f64::to_bits(x));
+        let bits = f64::to_bits(x);
+        write!(out, "double {bits:016X}")
+    } else {
+        out.write_all(b"double ")
     }
 }
 
-pub fn say_value(value: Value) {
-    match value {
-        Value::Whole(n) => {
-            say(b"whole ");
-            signed(n);
-        }
-        Value::At(at) => say_instant(at),
-        Value::Boolean(yes) => say_boolean(yes),
-        Value::Double(x) => say_double(x),
-    }
+pub fn refusal<W: Write>(out: &mut W, r: Refusal) -> io::Result<()> {
+    let number = r.number();
+    write!(out, "refused {number}")
 }
 
-pub fn say_refusal(r: Refusal) {
-    say(b"refused ");
-    decimal(wire::number(r) as u64);
-}
-
-pub fn say_valued(valued: Valued) {
+pub fn valued<W: Write>(out: &mut W, valued: Result<Value, Refusal>) -> io::Result<()> {
     match valued {
-        Valued::Is(value) => say_value(value),
-        Valued::Refused(r) => say_refusal(r),
+        Ok(value) => crate::value(out, value),
+        Err(r) => refusal(out, r),
     }
 }

@@ -1,10 +1,11 @@
 -- Typed values for programs in C and Rust: what a value is, two whole numbers and a double.
+use Rattle.std.specs.Prelude.{Result, Ok, Err}
 use mathlib.Core.{Bool.Bool, Bool.false, List.List, List.◌∷◌, Path.◌≡◌}
 use Rattle.std.specs.Prelude.{ℕ}
 use lib.{Dec.ltb, Ieee.Float, Ieee.fin, IntN.ℤ, IntN.pos, ListN.length, ListN.drop}
 use Rattle.wire.specs.{Bytes.if, declared.Refusal.Refusal}
 use Rattle.answer_c.specs.Codes.{refusal_code}
-use Rattle.sedna_value.specs.{declared.Value.Value, declared.Valued.Valued, Values.value_of}
+use Rattle.sedna_value.specs.{declared.Value.Value, Values.value_of}
 use Rattle.value_c.specs.declared.ValueNumbers.{ValueNumbers}
 
 abbrev pub flag_of : Bool → ℤ
@@ -50,9 +51,9 @@ lent_outcome n numbers doubles =
     if (ltb (length numbers) 2) (unchanged Refusal.NoRoom numbers doubles)
     (if (ltb (length doubles) 1) (unchanged Refusal.NoRoom numbers doubles) (value_told n numbers doubles))
 
-abbrev pub valued_outcome : Valued → List ℤ → List Float → Outcome
-valued_outcome (Valued.Is v) numbers doubles = lent_outcome (numbers_of v) numbers doubles
-valued_outcome (Valued.Refused r) numbers doubles = unchanged r numbers doubles
+abbrev pub valued_outcome : Result Value Refusal → List ℤ → List Float → Outcome
+valued_outcome (Ok v) numbers doubles = lent_outcome (numbers_of v) numbers doubles
+valued_outcome (Err r) numbers doubles = unchanged r numbers doubles
 
 unfoldable pub outcome : ℕ → ℕ → List ℕ → List ℤ → List Float → Outcome
 outcome class type text numbers doubles = valued_outcome (value_of class type text) numbers doubles

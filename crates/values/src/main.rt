@@ -5,66 +5,51 @@
 // form. An empty line and one that starts with # are printed as they are. Behind 4,096 bytes a line counts as a new one.
 #![tactic(auto)]
 
-use text_lines::cut::{behind, front, same};
+use sedna_value::Value;
+use std::io::{self, Write};
+use text_lines::answers::{Answers, each_line};
+use text_lines::cut::{behind, front};
 use text_lines::input::asks;
-use text_lines::parse::{Byte, SPACE, Spelt};
-use text_lines::print::say;
-use wire::first;
+use text_lines::parse::SPACE;
+use wire::{Refusal, first};
 
-// Puts the text that a word spells into out.
-fn text_of(word: &[u8], out: &mut [u8]) -> Spelt {
-    if same(word, b"-") {
-        return Spelt::Bytes(0);
+// Puts the text that a word spells into out; how many bytes it has.
+fn text_of(word: &[u8], out: &mut [u8]) -> Option<usize> {
+    match word {
+        [] => None,
+        [b'-'] => Some(0),
+        _ => text_lines::parse::bytes(word, out, 0),
     }
-    if word.len() == 0 {
-        return Spelt::Not;
-    }
-    text_lines::parse::bytes(word, out, 0)
 }
 
-// Whether the line is of the form above; its answer is printed.
-fn answered(line: &[u8]) -> bool {
+// The value of the item on a line of the form above.
+fn asked(line: &[u8]) -> Option<Result<Value, Refusal>> {
+    // An array: no heap, as in the library.
     let mut space = [0u8; SPACE];
     let rest = behind(line, b' ');
-    let Byte::Is(class) = text_lines::parse::decimal_byte(front(line, b' ')) else {
-        return false;
-    };
-    let Byte::Is(kind) = text_lines::parse::decimal_byte(front(rest, b' ')) else {
-        return false;
-    };
-    let Spelt::Bytes(n) = text_of(behind(rest, b' '), &mut space) else {
-        return false;
-    };
-    text_values::say_valued(sedna_value::value_of(class, kind, first(&space, n)));
-    true
+    let class = text_lines::parse::decimal_byte(front(line, b' '))?;
+    let kind = text_lines::parse::decimal_byte(front(rest, b' '))?;
+    let n = text_of(behind(rest, b' '), &mut space)?;
+    Some(sedna_value::value_of(class, kind, first(&space, n)))
 }
 
-fn show(line: &[u8]) {
-    say(line);
-    if asks(line) {
-        say(b" = ");
-        if !answered(line) {
-            say(b"?");
+#[derive(Drop)]
+struct Values;
+
+impl Answers for Values {
+    fn answer<W: Write>(&mut self, to: &mut W, line: &[u8]) -> io::Result<()> {
+        to.write_all(line)?;
+        if asks(line) {
+            to.write_all(b" = ")?;
+            match asked(line) {
+                Some(valued) => text_values::valued(to, valued)?,
+                None => to.write_all(b"?")?,
+            }
         }
+        to.write_all(b"\n")
     }
-    say(b"\n");
 }
 
-// Whether there was one more line.
-fn next_line() -> bool {
-    let mut buffer = io::buffer();
-    let n = text_lines::input::line(&mut buffer);
-    if n == 0 {
-        return false;
-    }
-    show(front(first(&buffer, n), b'\n'));
-    true
-}
-
-// A proved loop has to end: this one counts down from a number that no input uses up.
-fn main() {
-    let mut turns = u64::MAX;
-    while turns > 0 && next_line() {
-        turns -= 1;
-    }
+fn main(rt: HostRuntime) -> io::Result<()> {
+    each_line(&mut rt.reader(), &mut io::writer(&rt), &mut Values)
 }

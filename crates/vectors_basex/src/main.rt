@@ -12,37 +12,29 @@
 
 mod answer;
 
+use std::io::{self, Write};
+use text_lines::answers::{Answers, all_lines};
 use text_lines::cut::{behind, front};
 use text_lines::input::asks;
-use text_lines::print::say;
 
-fn line(text: &[u8]) {
-    say(text);
-    say(b"\n");
-    if !asks(text) {
-        return;
-    }
-    say(b"  = ");
-    if !answer::line(front(text, b' '), behind(text, b' ')) {
-        say(b"no such line");
-    }
-    say(b"\n");
-}
+#[derive(Drop)]
+struct Vectors;
 
-fn lines(text: &[u8]) {
-    let mut at = 0;
-    while at < text.len() {
-        let one = front(&text[at..], b'\n');
-        line(one);
-        at += one.len() + 1;
+impl Answers for Vectors {
+    fn answer<W: Write>(&mut self, to: &mut W, line: &[u8]) -> io::Result<()> {
+        to.write_all(line)?;
+        to.write_all(b"\n")?;
+        if !asks(line) {
+            return Ok(());
+        }
+        to.write_all(b"  = ")?;
+        if !answer::line(to, front(line, b' '), behind(line, b' '))? {
+            to.write_all(b"no such line")?;
+        }
+        to.write_all(b"\n")
     }
 }
 
-fn main() {
-    let mut buffer = io::large_buffer();
-    let n = io::read_full(text_lines::input::STDIN, &mut buffer);
-    lines(&buffer[..n]);
-    if n == 65536 {
-        say(b"  = lines behind the first 65,536 bytes are not read\n");
-    }
+fn main(rt: HostRuntime) -> io::Result<()> {
+    all_lines(&mut rt.reader(), &mut io::writer(&rt), &mut Vectors)
 }

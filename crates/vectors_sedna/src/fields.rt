@@ -1,7 +1,7 @@
 // The fields of a writing line: their bytes go into lent space, and the places there tell the message.
-use sedna_read::{Places, UrlPlace};
-use text_lines::cut::{behind, front, skip, trimmed};
-use text_lines::parse::{Number, SPACE, Spelt, bytes, decimal};
+use sedna_read::Places;
+use text_lines::cut::{Parts, behind, front, skip, trimmed};
+use text_lines::parse::{SPACE, bytes, decimal};
 use wire::Place;
 
 // The writing lines, by their first words.
@@ -15,46 +15,28 @@ pub enum Kind {
     Item,
     ItemUrl,
     Options,
-    None,
 }
 
-#[derive(Clone, Copy)]
-pub enum Fields {
-    Are(Places),
-    Not,
-}
-
-pub fn fields_of(kind: Kind, text: &[u8], space: &mut [u8]) -> Fields {
+pub fn fields_of(kind: Kind, text: &[u8], space: &mut [u8]) -> Option<Places> {
     match kind {
-        Kind::None => Fields::Not,
         Kind::Options => options(text, space),
         _ => plain(kind, text, space),
     }
 }
 
-fn plain(kind: Kind, text: &[u8], space: &mut [u8]) -> Fields {
+fn plain(kind: Kind, text: &[u8], space: &mut [u8]) -> Option<Places> {
     let n = numbers(kind);
     let hex = skip(text, n);
-    let Number::Is(x) = number(text, 0, n) else {
-        return Fields::Not;
-    };
-    let Number::Is(y) = number(text, 1, n) else {
-        return Fields::Not;
-    };
+    let x = number(text, 0, n)?;
+    let y = number(text, 1, n)?;
     if !cut_as(kind, hex) {
-        return Fields::Not;
+        return None;
     }
-    let Spelt::Bytes(i) = bytes(front(hex, b'/'), space, 0) else {
-        return Fields::Not;
-    };
-    let Spelt::Bytes(j) = bytes(behind(hex, b'/'), space, i) else {
-        return Fields::Not;
-    };
+    let i = bytes(front(hex, b'/'), space, 0)?;
+    let j = bytes(behind(hex, b'/'), space, i)?;
     // It never goes back; tested, since no contract says so.
-    if j < i {
-        return Fields::Not;
-    }
-    Fields::Are(places(kind, x, y, i, j - i))
+    let second = j.checked_sub(i)?;
+    Some(places(kind, x, y, i, second))
 }
 
 // How many numbers stand ahead of the byte fields.
@@ -67,9 +49,9 @@ fn numbers(kind: Kind) -> usize {
 }
 
 // The k-th of n numbers, 0 beyond them.
-fn number(text: &[u8], k: usize, n: usize) -> Number {
+fn number(text: &[u8], k: usize, n: usize) -> Option<u32> {
     if n <= k {
-        return Number::Is(0);
+        return Some(0);
     }
     decimal(front(skip(text, k), b' '))
 }
@@ -104,13 +86,13 @@ fn places(kind: Kind, x: u32, y: u32, i: usize, j: usize) -> Places {
         Kind::Item => Places::Item {
             class: byte(x),
             kind: byte(y),
-            url: UrlPlace::Absent,
+            url: None,
             part: a,
         },
         Kind::ItemUrl => Places::Item {
             class: byte(x),
             kind: byte(y),
-            url: UrlPlace::At(a),
+            url: Some(a),
             part: b,
         },
         _ => Places::Empty,
@@ -119,50 +101,35 @@ fn places(kind: Kind, x: u32, y: u32, i: usize, j: usize) -> Places {
 
 // A number that no byte holds counts as 255, which no field allows either.
 fn byte(x: u32) -> u8 {
-    if x < 256 { x as u8 } else { 255 }
+    u8::try_from(x).unwrap_or(255)
 }
 
 // `ID HEX / ID HEX / ..`, as the pairs of a body: options have no other places.
-fn options(text: &[u8], space: &mut [u8]) -> Fields {
-    let mut n = 0;
-    let mut count = 0;
-    let mut at = 0;
-    while at < text.len() {
-        let one = front(&text[at..], b'/');
-        match pair(trimmed(one), space, n) {
-            Spelt::Not => return Fields::Not,
-            Spelt::Bytes(m) => n = m,
-        }
-        at += one.len() + 1;
-        count += 1;
+fn options(text: &[u8], space: &mut [u8]) -> Option<Places> {
+    let mut len = 0;
+    let mut count = 0usize;
+    for one in Parts::of(text, b'/') {
+        len = pair(trimmed(one), space, len)?;
+        count = count.checked_add(1)?;
     }
-    Fields::Are(Places::Options {
-        pairs: Place { start: 0, len: n },
+    Some(Places::Options {
+        pairs: Place { start: 0, len },
         count,
     })
 }
 
 // The pair that `ID HEX` spells, from n on: its value is spelt first, to know the length in front of it.
-fn pair(text: &[u8], space: &mut [u8], n: usize) -> Spelt {
+fn pair(text: &[u8], space: &mut [u8], n: usize) -> Option<usize> {
     if SPACE < n {
-        return Spelt::Not;
+        return None;
     }
     let from = n + 9;
-    let Number::Is(id) = decimal(front(text, b' ')) else {
-        return Spelt::Not;
-    };
-    let Spelt::Bytes(m) = bytes(behind(text, b' '), space, from) else {
-        return Spelt::Not;
-    };
+    let id = decimal(front(text, b' '))?;
+    let end = bytes(behind(text, b' '), space, from)?;
     // As above; and the length is one that an int holds.
-    if m < from {
-        return Spelt::Not;
-    }
-    if SPACE < m {
-        return Spelt::Not;
-    }
+    let len = u32::try_from(end.checked_sub(from)?).ok()?;
     wire::put_int(space, n, id);
     wire::put_byte(space, n + 4, 0);
-    wire::put_int(space, n + 5, (m - from) as u32);
-    Spelt::Bytes(m)
+    wire::put_int(space, n + 5, len);
+    Some(end)
 }

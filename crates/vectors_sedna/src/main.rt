@@ -17,61 +17,51 @@ mod fields;
 mod written;
 
 use sedna::Side;
-use text_lines::cut::{behind, front, same};
+use std::io::{self, Write};
+use text_lines::answers::{Answers, all_lines};
+use text_lines::cut::{behind, front};
 use text_lines::input::asks;
-use text_lines::parse::{SPACE, Spelt};
-use text_lines::print::say;
+use text_lines::parse::SPACE;
 use wire::first;
 
-fn read(side: Side, text: &[u8]) -> bool {
+fn read<W: Write>(to: &mut W, side: Side, text: &[u8]) -> io::Result<bool> {
+    // An array: no heap, as in the library.
     let mut space = [0u8; SPACE];
-    let Spelt::Bytes(n) = text_lines::parse::bytes(text, &mut space, 0) else {
-        return false;
+    let Some(n) = text_lines::parse::bytes(text, &mut space, 0) else {
+        return Ok(false);
     };
-    text_sedna::show::read(side, first(&space, n));
-    true
+    text_sedna::show::read(to, side, first(&space, n))?;
+    Ok(true)
 }
 
 // Whether the line is one of those above; its answer is printed.
-fn answered(line: &[u8]) -> bool {
-    let kind = front(line, b' ');
+fn answered<W: Write>(to: &mut W, line: &[u8]) -> io::Result<bool> {
     let rest = behind(line, b' ');
-    if same(kind, b"C") {
-        return read(Side::Client, rest);
-    }
-    if same(kind, b"S") {
-        return read(Side::Server, rest);
-    }
-    ask::write(kind, rest)
-}
-
-fn line(text: &[u8]) {
-    say(text);
-    say(b"\n");
-    if !asks(text) {
-        return;
-    }
-    say(b"  = ");
-    if !answered(text) {
-        say(b"no such line");
-    }
-    say(b"\n");
-}
-
-fn lines(text: &[u8]) {
-    let mut at = 0;
-    while at < text.len() {
-        let one = front(&text[at..], b'\n');
-        line(one);
-        at += one.len() + 1;
+    match front(line, b' ') {
+        [b'C'] => read(to, Side::Client, rest),
+        [b'S'] => read(to, Side::Server, rest),
+        kind => ask::write(to, kind, rest),
     }
 }
 
-fn main() {
-    let mut buffer = io::large_buffer();
-    let n = io::read_full(text_lines::input::STDIN, &mut buffer);
-    lines(&buffer[..n]);
-    if n == 65536 {
-        say(b"  = lines behind the first 65,536 bytes are not read\n");
+#[derive(Drop)]
+struct Vectors;
+
+impl Answers for Vectors {
+    fn answer<W: Write>(&mut self, to: &mut W, line: &[u8]) -> io::Result<()> {
+        to.write_all(line)?;
+        to.write_all(b"\n")?;
+        if !asks(line) {
+            return Ok(());
+        }
+        to.write_all(b"  = ")?;
+        if !answered(to, line)? {
+            to.write_all(b"no such line")?;
+        }
+        to.write_all(b"\n")
     }
+}
+
+fn main(rt: HostRuntime) -> io::Result<()> {
+    all_lines(&mut rt.reader(), &mut io::writer(&rt), &mut Vectors)
 }

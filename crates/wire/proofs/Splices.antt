@@ -6,12 +6,18 @@ use native.Mathlib.Omega.{arith}
 use lib.ListN.{length, take, drop, length-append, length-drop, take-append-drop}
 use lib.Seq.{sets, sets-eq, length-sets, length-take-le, take_at, take-add, take-append_seam, drop_at, drop-drop}
 use borrow.Author.Tests.{lt-ltb, le-ltb}
+use borrow.Rule.Slice.PartMut.{put_mid}
 use Rattle.wire.specs.Bytes.{splice}
 use Rattle.wire.specs.Call.{put_at}
 
 pub splice-sets : (d : List ℕ) (at : ℕ) (s : List ℕ) → at + length s ≤ length d → sets d at s ≡ splice d at s
 unfolding splice
 splice-sets d at s h = sets-eq s d at h
+
+-- a write to a part of a slice is a splice
+pub put_mid-splice : (d : List ℕ) (at : ℕ) (s : List ℕ) → put_mid at (length s) d s ≡ splice d at s
+unfolding splice
+put_mid-splice d at s = rw (drop-drop (length s) at d) (sym (append_assoc (take at d) s (drop (at + length s) d)))
 
 pub length-splice : (d : List ℕ) (at : ℕ) (s : List ℕ) → at + length s ≤ length d → length (splice d at s) ≡ length d
 length-splice d at s h = ap length (sym (splice-sets d at s h)) ∙ length-sets d at s

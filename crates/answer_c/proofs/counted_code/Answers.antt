@@ -1,5 +1,5 @@
 use Rattle.answer_c.proofs.counted_code.Goals as goal
 
-pub returns-in-Refused : goal.returns-in-Refused
-returns-in-Refused c =
-    rw c.in-Refused.is c.refusal_code.ensures
+pub returns-in-Err : goal.returns-in-Err
+returns-in-Err c =
+    rw c.in-Err.is c.refusal_code.ensures

@@ -9,9 +9,7 @@ use lib.Seq.{append_snoc}
 use Rattle.wire.specs.Fields.{Got, Field}
 use Rattle.wire.specs.Refusals.{number_of}
 use Rattle.wire.specs.declared.Refusal.{Refusal}
-use Rattle.wire.specs.declared.Refusal.TheVariants.{MoreBytes, UnknownInstruction, OtherSide, BodyTooLong, FieldCut, StringFormat, BytesLeftOver}
-use Rattle.wire.specs.declared.Refusal.TheVariants.{ValueNotAllowed, OutOfOrder, NoRoom, NoEncoding, BufferOverrun, BadEscape, NoSuchPart, NotOfForm}
-use Rattle.wire.specs.declared.Refusal.TheVariants.{OutOfRange}
+use Rattle.wire.specs.declared.Refusal.TheVariants.{MoreBytes, UnknownInstruction, OtherSide, BodyTooLong, FieldCut, StringFormat, BytesLeftOver, ValueNotAllowed, OutOfOrder, NoRoom, NoEncoding, BufferOverrun, BadEscape, NoSuchPart, NotOfForm, OutOfRange}
 use Rattle.basex_laws.specs.Moments.{Encoded, Begun, Broken, Otherwise}
 use Rattle.basex_laws.proofs.Moments.Order.{Parting, part}
 

@@ -1,4 +1,5 @@
 -- Requests: 1, 2 and 13 exactly.
+use Rattle.std.specs.Prelude.{Option, Some, None}
 use mathlib.Core.Path.{◌≡◌, refl, sym, ap, ◌∙◌}
 use mathlib.Core.List.{List, [], ◌∷◌, ◌++◌, append-nil, flat_map}
 use mathlib.Core.Bool.{Bool, true, false}
@@ -12,8 +13,6 @@ use Rattle.wire.specs.declared.Refusal.TheVariants.{MoreBytes, UnknownInstructio
 use Rattle.basex_string.specs.Strings.{string}
 use Rattle.basex_string.specs.Scan as scan
 use Rattle.basex_string.proofs.Laws.{refuses}
-use Rattle.basex.specs.declared.Found.{Found}
-use Rattle.basex.specs.declared.Found.TheVariants.{Known, Unknown}
 use Rattle.basex.specs.declared.Reply.{Reply}
 use Rattle.basex.specs.declared.Reply.TheVariants.{Query}
 use Rattle.basex.specs.Kinds.{kinds, search, find_of, is_command, starts_command}
@@ -33,18 +32,18 @@ use Rattle.basex_laws.proofs.Moments.Texts.{texts-more, texts-pair}
 
 -- what a request was refused at: its first byte, its one text, or one of its strings
 data Where (b : ℕ) (s : List ℕ) (r : Refusal) : Type 0 where
-  unknown : find_of b ≡ Unknown → r ≡ UnknownInstruction → Where b s r
+  unknown : find_of b ≡ None → r ≡ UnknownInstruction → Where b s r
   command : starts_command b ≡ true → scan.reading (b ∷ s) ≡ Got.refused r → Where b s r
-  coded : (n : ℕ) (reply : Reply) → find_of b ≡ Known n reply → is_command reply ≡ false → texts n s ≡ Got.refused r → Where b s r
+  coded : (n : ℕ) (reply : Reply) → find_of b ≡ Some (n, reply) → is_command reply ≡ false → texts n s ≡ Got.refused r → Where b s r
 
 module _ (b : ℕ) (s : List ℕ) (r : Refusal) where
   located : reading (b ∷ s) ≡ Got.refused r → Where b s r
   unfolding reading
   located e = by (find_of b) refl e
     where
-      by : (f : Found) → find_of b ≡ f → fields_of b f s ≡ Got.refused r → Where b s r
-      by Unknown k e = Where.unknown k (cc)
-      by (Known n reply) k e = which (is_command reply) refl e
+      by : (f : Option (ℕ × Reply)) → find_of b ≡ f → fields_of b f s ≡ Got.refused r → Where b s r
+      by None k e = Where.unknown k (cc)
+      by (Some (n, reply)) k e = which (is_command reply) refl e
         where
           which : (c : Bool) → is_command reply ≡ c → if c (go_on (scan.reading (b ∷ s)) (λ t. give (Request.command t))) (go_on (texts n s) (λ ts. give (Request.coded b ts)))
               ≡ Got.refused r → Where b s r
@@ -76,7 +75,7 @@ short (b ∷ s) e = by (located b s MoreBytes e)
           some = g.some;
           whole = (
             Request.coded b g.whole.0,
-            (reply, k ∙ ap (λ (m : ℕ). Known m reply) (sym g.whole.1), c),
+            (reply, k ∙ ap (λ (m : ℕ). Some (m, reply)) (sym g.whole.1), c),
             ap
                 (λ (l : List ℕ). b ∷ l) g.whole.2,
           );
@@ -93,7 +92,7 @@ stays s r e = by (reading_refuses s r e)
     by (inl p) = inl p
     by (inr p) = inr (λ more. refused-behind s more r (other p) e)
 
-unknown-is : (s : List ℕ) → (reading s ≡ Got.refused UnknownInstruction) ↔ (b : ℕ) × (rest : List ℕ) × (s ≡ b ∷ rest) × (find_of b ≡ Unknown)
+unknown-is : (s : List ℕ) → (reading s ≡ Got.refused UnknownInstruction) ↔ (b : ℕ) × (rest : List ℕ) × (s ≡ b ∷ rest) × (find_of b ≡ None)
 unfolding reading
 unknown-is s = (forth s, λ h. ap reading h.2 ∙ refused-there h.0 h.1 UnknownInstruction (Where.unknown h.3 refl))
   where
@@ -101,11 +100,11 @@ unknown-is s = (forth s, λ h. ap reading h.2 ∙ refused-there h.0 h.1 UnknownI
     none (inl p) = let z : ◌≡◌ {A = ℕ} 0 1 = cc in omega arith
     none (inr p) = let z : ◌≡◌ {A = ℕ} 0 1 = cc in omega arith
 
-    forth : (s : List ℕ) → reading s ≡ Got.refused UnknownInstruction → (b : ℕ) × (rest : List ℕ) × (s ≡ b ∷ rest) × (find_of b ≡ Unknown)
+    forth : (s : List ℕ) → reading s ≡ Got.refused UnknownInstruction → (b : ℕ) × (rest : List ℕ) × (s ≡ b ∷ rest) × (find_of b ≡ None)
     forth [] e = let z : ◌≡◌ {A = ℕ} 0 1 = cc in absurd (omega arith)
     forth (b ∷ s) e = by (located b s UnknownInstruction e)
       where
-        by : Where b s UnknownInstruction → (c : ℕ) × (rest : List ℕ) × (b ∷ s ≡ c ∷ rest) × (find_of c ≡ Unknown)
+        by : Where b s UnknownInstruction → (c : ℕ) × (rest : List ℕ) × (b ∷ s ≡ c ∷ rest) × (find_of c ≡ None)
         by (Where.unknown k p) = (b, s, refl, k)
         by (Where.command h e) = absurd (none (refuses (b ∷ s) UnknownInstruction e))
         by (Where.coded n reply k c e) = absurd (none (texts_refuses n s UnknownInstruction e))

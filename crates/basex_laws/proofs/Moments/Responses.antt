@@ -1,4 +1,5 @@
 -- Responses: 1, 2, 8 and 13 exactly.
+use Rattle.std.specs.Prelude.{Option, Some, None}
 use mathlib.Core.Path.{◌≡◌, refl, sym, ap, ◌∙◌}
 use mathlib.Core.List.{List, [], ◌∷◌, ◌++◌, append_assoc}
 use mathlib.Core.Bool.{Bool, true, false}
@@ -10,8 +11,6 @@ use lib.ListN.{length}
 use Rattle.wire.specs.Fields.{Got, go_on}
 use Rattle.wire.specs.declared.Refusal.{Refusal}
 use Rattle.wire.specs.declared.Refusal.TheVariants.{MoreBytes, UnknownInstruction, ValueNotAllowed, BadEscape}
-use Rattle.basex.specs.declared.Found.{Found}
-use Rattle.basex.specs.declared.Found.TheVariants.{Known, Unknown}
 use Rattle.basex.specs.declared.Reply.{Reply}
 use Rattle.basex.specs.Kinds.{find_of, ahead, listed, is_full}
 use Rattle.basex.specs.Response.{Item, Response, items_bytes, list_bytes, encode, ItemsAllowed, ListAllowed, Published}
@@ -194,7 +193,7 @@ module _ (kind : ℕ) where
   unfolding reading
   none-short = refl
 
-  unknown-is : (s : List ℕ) → (reading kind s ≡ Got.refused UnknownInstruction) ↔ (0 < length s) × (find_of kind ≡ Unknown)
+  unknown-is : (s : List ℕ) → (reading kind s ≡ Got.refused UnknownInstruction) ↔ (0 < length s) × (find_of kind ≡ None)
   unfolding reading
   unknown-is [] = (λ e. let z : ◌≡◌ {A = ℕ} 0 1 = cc in absurd (omega arith), λ h. let k = h.0 in absurd (omega arith))
   unknown-is (b ∷ s) = (forth (find_of kind) refl, λ h. rw h.1 refl)
@@ -204,12 +203,12 @@ module _ (kind : ℕ) where
       never (inr (inl p)) = let z : ◌≡◌ {A = ℕ} 0 1 = cc in omega arith
       never (inr (inr p)) = let z : ◌≡◌ {A = ℕ} 0 1 = cc in omega arith
 
-      forth : (f : Found) → find_of kind ≡ f → reading kind (b ∷ s) ≡ Got.refused UnknownInstruction → (0 < length (b ∷ s)) × (find_of kind ≡ Unknown)
-      forth Unknown k e = (omega arith, k)
-      forth (Known n reply) k e = absurd (never (fields-refuse reply UnknownInstruction (b ∷ s) (sym (reading-known kind n reply k (b ∷ s)) ∙ e)))
+      forth : (f : Option (ℕ × Reply)) → find_of kind ≡ f → reading kind (b ∷ s) ≡ Got.refused UnknownInstruction → (0 < length (b ∷ s)) × (find_of kind ≡ None)
+      forth None k e = (omega arith, k)
+      forth (Some (n, reply)) k e = absurd (never (fields-refuse reply UnknownInstruction (b ∷ s) (sym (reading-known kind n reply k (b ∷ s)) ∙ e)))
 
   -- of a known kind, what is known of its fields
-  as_fields : (n : ℕ) (reply : Reply) → find_of kind ≡ Known n reply → (r : Refusal) (Bad : List ℕ → Type 0) → ((s : List ℕ) → (fields_of reply s ≡ Got.refused r) ↔ Bad s)
+  as_fields : (n : ℕ) (reply : Reply) → find_of kind ≡ Some (n, reply) → (r : Refusal) (Bad : List ℕ → Type 0) → ((s : List ℕ) → (fields_of reply s ≡ Got.refused r) ↔ Bad s)
       → (s : List ℕ) → (reading kind s ≡ Got.refused r) ↔ Bad s
   as_fields n reply k r Bad bad s = rw (reading-known kind n reply k s) (bad s)
 

@@ -1,14 +1,10 @@
 -- What the writer's steps put, one behind the other.
-use mathlib.Core.{Bool.Bool, Bool.true, Bool.false, List.List, List.[], List.◌∷◌, List.◌++◌}
+use mathlib.Core.{Bool.Bool, Bool.false, List.List, List.[], List.◌∷◌, List.◌++◌}
 use Rattle.std.specs.Prelude.{ℕ}
-use lib.{Dec.ltb, Dec.eqb, ListN.length}
+use lib.{Dec.ltb}
 use Rattle.wire.specs.Bytes.{if}
 use Rattle.basex_string.specs.Strings.{string}
-use Rattle.basex.specs.{declared.Reply.Reply, Kinds.ahead, Kinds.behind, Kinds.listed, Kinds.status_allowed, Texts.string_if}
-
--- a text that is not present is empty
-abbrev pub place_if : Bool → List ℕ → Bool
-place_if present text = if present true (eqb (length text) 0)
+use Rattle.basex.specs.{declared.Reply.Reply, Kinds.ahead, Kinds.behind, Kinds.listed, Kinds.status_allowed, Texts.place_if, Texts.string_if}
 
 -- the 00 behind the items
 abbrev pub zero_if : Bool → List ℕ

@@ -22,60 +22,43 @@ pub bounds-bytes-from : goal.bounds-bytes-from
 bounds-bytes-from c =
     text_here c.args.bytes.now (c.args.from + 2 * c.loop-n.n) (omega arith)
 
-pub shape_of-out-then-bytes-from : goal.shape_of-out-then-bytes-from
-shape_of-out-then-bytes-from c =
-    c.loop-n.invariant.0
-
-pub returns-then-bytes-from : goal.returns-then-bytes-from
-returns-then-bytes-from c =
+pub returns-else-bytes-from : goal.returns-else-bytes-from
+returns-else-bytes-from c =
     let v = c.loop-n.invariant in
     let a = c.args in
-    let f = behind-first a.bytes.now a.from c.loop-n.n c.requires.2 c.if-bytes-from.true in
+    let f = behind-first a.bytes.now a.from c.loop-n.n c.requires.2 c.if-bytes-from.false in
     (record { some = f; adds = v.1.1.0; makes = v.1.1.1.makes }, v.1.0)
 
 pub overflow_add-out-in-loop-n : goal.overflow_add-out-in-loop-n
 overflow_add-out-in-loop-n c =
     let a = c.args in
     let n = c.loop-n.n in
-    let h = text-two a.bytes.now (a.from + 2 * n) (omega arith) c.if-bytes-from.false in
+    let h = text-two a.bytes.now (a.from + 2 * n) (omega arith) c.if-bytes-from.true in
     omega arith
 
 pub bounds-bytes-from-in-loop-n : goal.bounds-bytes-from-in-loop-n
 bounds-bytes-from-in-loop-n c =
     let a = c.args in
     let n = c.loop-n.n in
-    let h = text-two a.bytes.now (a.from + 2 * n) (omega arith) c.if-bytes-from.false in
+    let h = text-two a.bytes.now (a.from + 2 * n) (omega arith) c.if-bytes-from.true in
     omega arith
-
-pub shape_of-out-then-n-eq8 : goal.shape_of-out-then-n-eq8
-shape_of-out-then-n-eq8 c =
-    simp length-set c.loop-n.invariant.0
-
-pub returns-then-n-eq8 : goal.returns-then-n-eq8
-returns-then-n-eq8 c =
-    let a = c.args in
-    let n = c.loop-n.n in
-    let h = text-two a.bytes.now (a.from + 2 * n) (omega arith) c.if-bytes-from.false in
-    let v = c.loop-n.invariant in
-    let e = behind-next a.bytes.now a.from n (omega arith) c.if-bytes-from.false in
-    let l = ap length e in
-    (record { some = omega arith; adds = omega arith; makes = (ahead-one a.to n e v.1.1.1).makes }, omega arith)
 
 pub loop-n-preserved : goal.loop-n-preserved
 loop-n-preserved c =
     let a = c.args in
     let n = c.loop-n.n in
-    let h = text-two a.bytes.now (a.from + 2 * n) (omega arith) c.if-bytes-from.false in
+    let h = text-two a.bytes.now (a.from + 2 * n) (omega arith) c.if-bytes-from.true in
     let v = c.loop-n.invariant in
-    let e = behind-next a.bytes.now a.from n (omega arith) c.if-bytes-from.false in
+    let e = behind-next a.bytes.now a.from n (omega arith) c.if-bytes-from.true in
     let l = ap length e in
     (simp length-set v.0, (omega arith, (omega arith, ahead-one a.to n e v.1.1.1)))
 
-pub shape_of-out : goal.shape_of-out
-shape_of-out c =
-    c.loop-n.invariant.0
+pub returns-after-loop-n : goal.returns-after-loop-n
+returns-after-loop-n c =
+    let v = c.loop-n.invariant in
+    (record { some = omega arith; adds = v.1.1.0; makes = v.1.1.1.makes }, v.1.0)
 
-pub returns : goal.returns
-returns c =
+pub returns-else-n-lt8 : goal.returns-else-n-lt8
+returns-else-n-lt8 c =
     let v = c.loop-n.invariant in
     (record { some = omega arith; adds = v.1.1.0; makes = v.1.1.1.makes }, v.1.0)

@@ -9,13 +9,13 @@ use lib.Dec.{ltb}
 use lib.ListN.{length, take, drop, get_or, length-append}
 use lib.Seq.{take-append_seam, drop-append_seam}
 use borrow.Author.Tests.{leb-true, lt-ltb, le-ltb, ltb-true, ltb-false}
+use Rattle.std.specs.Prelude.{Option, Some, None, Result, Ok}
+use Rattle.std.proofs.lemmas.Bool.Decides.{nat_tests}
 use Rattle.wire.specs.Bytes.{splice}
 use Rattle.wire.specs.declared.Place.{Place}
 use Rattle.wire.specs.declared.Refusal.{Refusal}
 use Rattle.wire.specs.declared.Refusal.TheVariants.{UnknownInstruction, ValueNotAllowed, NoRoom}
 use Rattle.wire.proofs.Splices.{length-splice}
-use Rattle.basex.specs.declared.Found.{Found}
-use Rattle.basex.specs.declared.Found.TheVariants.{Known, Unknown}
 use Rattle.basex.specs.declared.Reply.{Reply}
 use Rattle.basex.specs.Kinds.{find_of}
 use Rattle.basex.specs.Response.{Response, Stands, error_of}
@@ -26,14 +26,13 @@ use Rattle.basex_response.specs.Reading.{all_texts}
 use Rattle.basex_laws.proofs.Exactly.{errors_exactly}
 use Rattle.basex_response.proofs.Sizes.{flatten-append}
 use Rattle.basex_laws.proofs.Responses.{response_exact}
-use Rattle.basex_c.specs.declared.errors.ErrorIn.{ErrorIn}
-use Rattle.basex_c.specs.declared.errors.ErrorIn.TheVariants as error-in
 use Rattle.basex_c.specs.Codes.{lent}
 use Rattle.basex_c.specs.Told.{error_told, error_in}
 use Rattle.demands.specs.Answered.{Answered}
 use Rattle.demands.specs.BaseXCalls as calls
 use Rattle.demands.specs.BaseXCalls.{Called, telling, refused_with, ComesOutRight, response_numbers, error_numbers, ErrorDue, NoError, SomeError, ErrorAsked, ErrorTold}
-use Rattle.demands.proofs.BaseXCalls.Answers.{refusal_is, in_front}
+use Rattle.demands.proofs.Answered.{refused}
+use Rattle.demands.proofs.BaseXCalls.Answers.{refused_as, in_front}
 
 module _ (kind : ℕ) (numbers place : List ℕ) where
   abbrev status : ℕ
@@ -43,24 +42,15 @@ module _ (kind : ℕ) (numbers place : List ℕ) where
   error_place reply = error_at reply (get_or numbers 0 0) (get_or numbers 1 0) (get_or numbers 3 0) (get_or numbers 5 0)
 
   -- what the call makes of what is asked
-  abbrev comes : ErrorIn → Called
+  abbrev comes : Result (Option Place) Refusal → Called
   comes y = telling [] 0 [] place (lent (length place) (error_told y))
 
-  refused_as : (r : Refusal) → comes (error-in.Refused r) ≡ refused_with r [] place
-  refused_as r = ap (λ (a : Answered). record { answer = a; out = []; told = place }) (refusal_is r)
-
-  refused_so : (r : Refusal) → error_in kind numbers ≡ error-in.Refused r → calls.error_called kind numbers place ≡ refused_with r [] place
-  refused_so r e = ap comes e ∙ refused_as r
-
-  module _ (six : 6 ≤ length numbers) (n : ℕ) (reply : Reply) (known : find_of kind ≡ Known n reply) where
-    asks_none : status ≡ 0 → error_in kind numbers ≡ error-in.None
+  module _ (six : 6 ≤ length numbers) (n : ℕ) (reply : Reply) (known : find_of kind ≡ Some (n, reply)) where
+    asks_none : status ≡ 0 → error_in kind numbers ≡ Ok None
     asks_none s = rw (le-ltb (length numbers) 6 six, known, s)
 
-    asks-place : status ≡ 1 → error_in kind numbers ≡ error-in.At (error_place reply)
+    asks-place : status ≡ 1 → error_in kind numbers ≡ Ok (Some (error_place reply))
     asks-place s = rw (le-ltb (length numbers) 6 six, known, s)
-
-    asks_above : 1 < status → error_in kind numbers ≡ error-in.Refused ValueNotAllowed
-    asks_above h = rw (le-ltb (length numbers) 6 six, known, lt-ltb 1 status h)
 
     none_is : status ≡ 0 → calls.error_called kind numbers place ≡ record { answer = Answered.count 0; out = splice [] 0 []; told = place }
     none_is s = ap comes (asks_none s) ∙ rw (le-ltb (length place) 0 (omega arith))
@@ -69,7 +59,7 @@ module _ (kind : ℕ) (numbers place : List ℕ) where
     no-error s = subst (NoError place) (sym (none_is s)) (record { counted = refl; untold = refl })
 
     pub error_unlent : status ≡ 1 → length place < 2 → calls.error_called kind numbers place ≡ refused_with NoRoom [] place
-    error_unlent s h = ap comes (asks-place s) ∙ rw (lt-ltb (length place) 2 h) (refused_as NoRoom)
+    error_unlent s h = ap comes (asks-place s) ∙ rw (lt-ltb (length place) 2 h) (refused_as [] 0 [] place NoRoom)
 
     -- the two numbers told
     pub error-is : status ≡ 1 → 2 ≤ length place
@@ -81,9 +71,9 @@ module _ (kind : ℕ) (numbers place : List ℕ) where
         subst (SomeError place) (sym (error-is s h)) (record { counted = refl; fields = in_front ((error_place reply).start ∷ (error_place reply).len ∷ []) place h })
 
   pub error_due : (r : Refusal) → ErrorDue kind numbers (length place) r → calls.error_called kind numbers place ≡ refused_with r [] place
-  error_due r (ErrorDue.too_few h) = refused_so NoRoom (rw (lt-ltb (length numbers) 6 h))
-  error_due r (ErrorDue.unknown h k) = refused_so UnknownInstruction (rw (le-ltb (length numbers) 6 h, k))
-  error_due r (ErrorDue.bad_status h n reply k s) = refused_so ValueNotAllowed (asks_above h n reply k s)
+  error_due r (ErrorDue.too_few h) = grind (arith, nat_tests, refused)
+  error_due r (ErrorDue.unknown h k) = grind (arith, nat_tests, refused)
+  error_due r (ErrorDue.bad_status h n reply k s) = grind (arith, nat_tests, refused)
   error_due r (ErrorDue.no_room h n reply k s l) = error_unlent h n reply k s l
 
   abbrev Rightly : Type 0
@@ -95,18 +85,18 @@ module _ (kind : ℕ) (numbers place : List ℕ) where
   pub error : Rightly
   error = given (ltb (length numbers) 6) refl
     where
-      failed : (h : 6 ≤ length numbers) (n : ℕ) (reply : Reply) → find_of kind ≡ Known n reply → status ≡ 1 → (b : Bool) → ltb (length place) 2 ≡ b → Rightly
+      failed : (h : 6 ≤ length numbers) (n : ℕ) (reply : Reply) → find_of kind ≡ Some (n, reply) → status ≡ 1 → (b : Bool) → ltb (length place) 2 ≡ b → Rightly
       failed h n reply k s true l = is-due NoRoom (ErrorDue.no_room h n reply k s (ltb-true (length place) 2 l))
       failed h n reply k s false l = ComesOutRight.accepted (inr (s, some-error h n reply k s (ltb-false (length place) 2 l)))
 
-      known : (h : 6 ≤ length numbers) (n : ℕ) (reply : Reply) → find_of kind ≡ Known n reply → (m : ℕ) → status ≡ m → Rightly
+      known : (h : 6 ≤ length numbers) (n : ℕ) (reply : Reply) → find_of kind ≡ Some (n, reply) → (m : ℕ) → status ≡ m → Rightly
       known h n reply k zero s = ComesOutRight.accepted (inl (s, no-error h n reply k s))
       known h n reply k (suc zero) s = failed h n reply k s (ltb (length place) 2) refl
       known h n reply k (suc (suc m)) s = is-due ValueNotAllowed (ErrorDue.bad_status h n reply k (omega (arith, s)))
 
-      found : 6 ≤ length numbers → (f : Found) → find_of kind ≡ f → Rightly
-      found h Unknown k = is-due UnknownInstruction (ErrorDue.unknown h k)
-      found h (Known n reply) k = known h n reply k status refl
+      found : 6 ≤ length numbers → (f : Option (ℕ × Reply)) → find_of kind ≡ f → Rightly
+      found h None k = is-due UnknownInstruction (ErrorDue.unknown h k)
+      found h (Some (n, reply)) k = known h n reply k status refl
 
       given : (b : Bool) → ltb (length numbers) 6 ≡ b → Rightly
       given true e = is-due NoRoom (ErrorDue.too_few (ltb-true (length numbers) 6 e))

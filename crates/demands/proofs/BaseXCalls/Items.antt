@@ -3,16 +3,16 @@ use mathlib.Core.Bool.{Bool, true, false}
 use mathlib.Core.List.{List, [], ◌∷◌}
 use mathlib.Core.Logic.{◌⊎◌, inl, inr}
 use mathlib.Core.Path.{◌≡◌, refl, sym, ap, subst, ◌∙◌}
-use Prim.Native.Nat.{ℕ, ◌-◌, ◌≤◌, ◌<◌}
+use Prim.Native.Nat.{ℕ, ◌-◌, ◌<◌}
 use native.Mathlib.Omega.{arith}
 use lib.Dec.{ltb}
-use lib.ListN.{length, drop, length-drop}
-use borrow.Author.Tests.{ltb-true, ltb-false, lt-ltb, le-ltb}
+use lib.ListN.{length, drop, length-drop, drop_of_length-le}
+use borrow.Author.Tests.{ltb-true, ltb-false, lt-ltb}
+use Rattle.std.specs.Prelude.{Option, Some, None, Result, Ok, Err}
+use Rattle.std.proofs.lemmas.Bool.Decides.{nat_tests}
 use Rattle.wire.specs.Fields.{Got}
 use Rattle.wire.specs.declared.Refusal.{Refusal}
 use Rattle.wire.specs.declared.Refusal.TheVariants.{MoreBytes, UnknownInstruction, ValueNotAllowed, NoRoom, BadEscape}
-use Rattle.basex.specs.declared.Found.{Found}
-use Rattle.basex.specs.declared.Found.TheVariants.{Known, Unknown}
 use Rattle.basex.specs.declared.Reply.{Reply}
 use Rattle.basex.specs.Kinds.{find_of, listed, is_full}
 use Rattle.basex.specs.Response.{Item, item_bytes}
@@ -24,20 +24,13 @@ use Rattle.basex_laws.proofs.Listed.{OfFields, next_refuses, next-item}
 use Rattle.basex_laws.proofs.Moments.{item_moments}
 use Rattle.basex_c.specs.Codes.{lent}
 use Rattle.basex_c.specs.Told.{item_told, item_in}
-use Rattle.demands.specs.Answered.{Answered}
 use Rattle.demands.specs.BaseXCalls.{Lendable, Called, telling, refused_with, ComesOutRight, Lists, ItemDue, ItemRead, ItemsEnd, item_called}
-use Rattle.demands.proofs.BaseXCalls.Answers.{refusal_is, counts, refuses, tells, in_front}
+use Rattle.demands.proofs.Answered.{refused}
+use Rattle.demands.proofs.BaseXCalls.Answers.{refused_as, counts, refuses, tells, in_front}
 
 pub item-some : (i : Item) → 0 < length (item_bytes i)
 unfolding item_bytes
 item-some i = omega arith
-
-none_left : (at : ℕ) (s : List ℕ) → length s ≤ at → drop at s ≡ []
-none_left at s h = by (drop at s) (length-drop at s)
-  where
-    by : (l : List ℕ) → length l ≡ length s - at → l ≡ []
-    by [] e = refl
-    by (b ∷ l) e = absurd (omega arith)
 
 none-next : (full : Bool) → next full [] ≡ Got.refused MoreBytes
 unfolding next
@@ -46,42 +39,29 @@ none-next full = refl
 module _ (kind : ℕ) (s : List ℕ) (at : ℕ) where
   -- of a kind with items, the call asks what `item_at` asks: with no byte that is 1 too
   pub asks : (full : Bool) → Lists kind full → item_in kind s at ≡ item_at full at (length s - at) (next full (drop at s))
-  asks full l = by (ltb at (length s)) refl
-    where
-      by : (b : Bool) → ltb at (length s) ≡ b → item_in kind s at ≡ item_at full at (length s - at) (next full (drop at s))
-      by true e = rw (e, l.known, l.list, l.uris)
-      by false e = rw (e, none_left at s (ltb-false at (length s) e), none-next full)
+  asks full l = grind (arith, nat_tests, l.known, l.list, l.uris, drop_of_length-le s {i = at}, none-next full)
 
   module _ (told : List ℕ) where
     -- what the call makes of what is asked
-    abbrev pub comes : ItemAt → Called
+    abbrev pub comes : Result ItemAt Refusal → Called
     comes y = telling [] 0 [] told (lent (length told) (item_told at y))
 
-    pub refused_as : (r : Refusal) → comes (item-at.Refused r) ≡ refused_with r [] told
-    refused_as r = ap (λ (a : Answered). record { answer = a; out = []; told = told }) (refusal_is r)
-
-    refused_so : (r : Refusal) → item_in kind s at ≡ item-at.Refused r → item_called kind s at told ≡ refused_with r [] told
-    refused_so r e = ap comes e ∙ refused_as r
+    refused_so : (r : Refusal) → item_in kind s at ≡ Err r → item_called kind s at told ≡ refused_with r [] told
+    refused_so r e = ap comes e ∙ refused_as [] 0 [] told r
 
     -- a kind with items refuses what reading an item refuses
     listed-due : (full : Bool) → Lists kind full → (r : Refusal) → next full (drop at s) ≡ Got.refused r → item_called kind s at told ≡ refused_with r [] told
     listed-due full l r e = refused_so r (asks full l ∙ ap (item_at full at (length s - at)) e)
 
-    some : 0 < length (drop at s) → ltb at (length s) ≡ true
-    some h = let d = length-drop at s in lt-ltb at (length s) (omega arith)
-
     pub item_due : (r : Refusal) → ItemDue kind (drop at s) (length told) r → item_called kind s at told ≡ refused_with r [] told
-    item_due r (ItemDue.no_byte e) =
-        let l = length-drop at s in
-        let z = ap length e in
-        refused_so MoreBytes (rw (le-ltb at (length s) (omega arith)))
-    item_due r (ItemDue.unknown h e) = refused_so UnknownInstruction (rw (some h, e))
-    item_due r (ItemDue.unlisted h n reply e o) = refused_so ValueNotAllowed (rw (some h, e, o))
+    item_due r (ItemDue.no_byte e) = grind (arith, nat_tests, refused, ap length e, length-drop at s)
+    item_due r (ItemDue.unknown h e) = grind (arith, nat_tests, refused, length-drop at s)
+    item_due r (ItemDue.unlisted h n reply e o) = grind (arith, nat_tests, refused, length-drop at s)
     item_due r (ItemDue.more full l b) = listed-due full l MoreBytes (((item_moments full).more (drop at s)).1 b)
     item_due r (ItemDue.bad_id full l b) = listed-due full l ValueNotAllowed (((item_moments full).value (drop at s)).1 b)
     item_due r (ItemDue.bad_pair full l b) = listed-due full l BadEscape (((item_moments full).pair (drop at s)).1 b)
     item_due r (ItemDue.no_room full l i rest a e h) =
-        ap comes (asks full l ∙ ap (item_at full at (length s - at)) (ap (next full) e ∙ next-item full i rest a)) ∙ rw (lt-ltb (length told) 3 h) (refused_as NoRoom)
+        ap comes (asks full l ∙ ap (item_at full at (length s - at)) (ap (next full) e ∙ next-item full i rest a)) ∙ rw (lt-ltb (length told) 3 h) (refused_as [] 0 [] told NoRoom)
 
     module _ (short : Lendable s) where
       abbrev Accepts : Called → Type 0
@@ -92,18 +72,24 @@ module _ (kind : ℕ) (s : List ℕ) (at : ℕ) where
 
       module _ (full : Bool) (l : Lists kind full) where
         refusal-due : (r : Refusal) → OfFields r → next full (drop at s) ≡ Got.refused r → ItemDue kind (drop at s) (length told) r
-        refusal-due r (inl z) e = subst (ItemDue kind (drop at s) (length told)) (sym z) (ItemDue.more full l (((item_moments full).more (drop at s)).0 (e ∙ ap Got.refused z)))
-        refusal-due r (inr (inl z)) e = subst (ItemDue kind (drop at s) (length told)) (sym z) (ItemDue.bad_id full l (((item_moments full).value (drop at s)).0 (e ∙ ap Got.refused z)))
-        refusal-due r (inr (inr z)) e = subst (ItemDue kind (drop at s) (length told)) (sym z) (ItemDue.bad_pair full l (((item_moments full).pair (drop at s)).0 (e ∙ ap Got.refused z)))
+        refusal-due r by e = rightly by
+          where
+            due_as : {q : Refusal} → r ≡ q → (next full (drop at s) ≡ Got.refused q → ItemDue kind (drop at s) (length told) q) → ItemDue kind (drop at s) (length told) r
+            due_as z due = subst (ItemDue kind (drop at s) (length told)) (sym z) (due (e ∙ ap Got.refused z))
 
-        listed-item : (y : ItemAt) → item_at full at (length s - at) (next full (drop at s)) ≡ y → Rightly (comes y)
-        listed-item (item-at.Refused r) e =
+            rightly : OfFields r → ItemDue kind (drop at s) (length told) r
+            rightly (inl z) = due_as z (λ d. ItemDue.more full l (((item_moments full).more (drop at s)).0 d))
+            rightly (inr (inl z)) = due_as z (λ d. ItemDue.bad_id full l (((item_moments full).value (drop at s)).0 d))
+            rightly (inr (inr z)) = due_as z (λ d. ItemDue.bad_pair full l (((item_moments full).pair (drop at s)).0 d))
+
+        listed-item : (y : Result ItemAt Refusal) → item_at full at (length s - at) (next full (drop at s)) ≡ y → Rightly (comes y)
+        listed-item (Err r) e =
             let d = (told_exactly.item_refused full s at r).0 e in
             refuses [] 0 [] told r (refusal-due r (next_refuses full (drop at s) r d) d)
-        listed-item (item-at.End n) e =
+        listed-item (Ok (item-at.End n)) e =
             let d = (told_exactly.item-end full s at n).0 e in
             tells [] 0 [] told 0 [] (λ h. absurd (omega arith)) (λ h. inr (record { full = full; lists = l; rest = drop n s; stands = d.0; counted = refl; untold = refl }))
-        listed-item (item-at.Item id uri text n) e =
+        listed-item (Ok (item-at.Item id uri text n)) e =
             let t = (told_exactly.item-told full s at id uri text n).0 e in
             tells [] 0 [] told (n - at) (id ∷ uri ∷ text ∷ []) (λ h. ItemDue.no_room full l t.item (drop n s) t.allowed t.stands h)
             (λ h. inl (record {
@@ -123,7 +109,7 @@ module _ (kind : ℕ) (s : List ℕ) (at : ℕ) where
       pub item : Rightly (item_called kind s at told)
       item = by (ltb at (length s)) refl (find_of kind) refl
         where
-          known : ltb at (length s) ≡ true → (n : ℕ) (reply : Reply) → find_of kind ≡ Known n reply → (b : Bool) → listed reply ≡ b → Rightly (item_called kind s at told)
+          known : ltb at (length s) ≡ true → (n : ℕ) (reply : Reply) → find_of kind ≡ Some (n, reply) → (b : Bool) → listed reply ≡ b → Rightly (item_called kind s at told)
           known e n reply k true z =
               let l : Lists kind (is_full reply) = record { strings = n; reply = reply; known = k; list = z; uris = refl } in
               subst Rightly (ap comes (sym (asks (is_full reply) l))) (listed-item (is_full reply) l (item_at (is_full reply) at (length s - at) (next (is_full reply) (drop at s))) refl)
@@ -131,11 +117,11 @@ module _ (kind : ℕ) (s : List ℕ) (at : ℕ) where
               let d : ItemDue kind (drop at s) (length told) ValueNotAllowed = ItemDue.unlisted (let q = length-drop at s in let h = ltb-true at (length s) e in omega arith) n reply k z in
               ComesOutRight.refused ValueNotAllowed d (item_due ValueNotAllowed d)
 
-          by : (b : Bool) → ltb at (length s) ≡ b → (f : Found) → find_of kind ≡ f → Rightly (item_called kind s at told)
+          by : (b : Bool) → ltb at (length s) ≡ b → (f : Option (ℕ × Reply)) → find_of kind ≡ f → Rightly (item_called kind s at told)
           by false e f k =
-              let d : ItemDue kind (drop at s) (length told) MoreBytes = ItemDue.no_byte (none_left at s (ltb-false at (length s) e)) in
+              let d : ItemDue kind (drop at s) (length told) MoreBytes = ItemDue.no_byte (drop_of_length-le s (ltb-false at (length s) e)) in
               ComesOutRight.refused MoreBytes d (item_due MoreBytes d)
-          by true e Unknown k =
+          by true e None k =
               let d : ItemDue kind (drop at s) (length told) UnknownInstruction = ItemDue.unknown (let q = length-drop at s in let h = ltb-true at (length s) e in omega arith) k in
               ComesOutRight.refused UnknownInstruction d (item_due UnknownInstruction d)
-          by true e (Known n reply) k = known e n reply k (listed reply) refl
+          by true e (Some (n, reply)) k = known e n reply k (listed reply) refl

@@ -6,25 +6,18 @@ use Prim.Native.Nat.{ℕ, ◌≤◌}
 use native.Mathlib.Omega.{arith}
 use lib.ListN.{length, drop, length-drop}
 use lib.Seq.{drop-append_seam}
+use Rattle.std.proofs.lemmas.List.{nil_from_length}
 use Rattle.basex.specs.declared.Reply.{Reply}
-use Rattle.basex.specs.declared.Reply.TheVariants.{Command, Create, Query, Results, Full}
 use Rattle.basex.specs.Kinds.{find_of, ahead, listed, is_full}
 use Rattle.basex.specs.Texts.{strings}
 use Rattle.basex.specs.Response.{Item, Response, item_bytes, items_bytes, encode, ItemAllowed, ItemsAllowed, ListAllowed, Published, Stands}
 use Rattle.basex_laws.specs.Calls.{listed_of}
-use Rattle.wire.proofs.Branches.{apart}
 use Rattle.demands.specs.BaseXCalls.{Lendable, Lists, ItemRead, ItemsEnd, item_called, with_items, count_of, streamed}
 use Rattle.demands.proofs.BaseXCalls.Taken.{item_taken, item_none}
 
 -- what stands ahead of an item is nothing
 no-texts : (reply : Reply) → listed reply ≡ true → (ts : List (List ℕ)) → length ts ≡ ahead reply → ts ≡ []
-no-texts Command l ts h = apart (cc)
-no-texts Create l ts h = apart (cc)
-no-texts Query l ts h = apart (cc)
-no-texts Results l [] h = refl
-no-texts Results l (t ∷ ts) h = absurd (omega arith)
-no-texts Full l [] h = refl
-no-texts Full l (t ∷ ts) h = absurd (omega arith)
+no-texts reply l ts h = grind (arith, nil_from_length ts)
 
 -- a response that starts with an item is that item and the response without it
 record Begins (reply : Reply) (r : Response) (i : Item) (is : List Item) : Type 0 where
@@ -38,7 +31,7 @@ unfolding encode flat_map
 begins reply r i is p e = by (listed reply) refl p.list
   where
     by : (b : Bool) → listed reply ≡ b → ListAllowed b (is_full reply) r.items → Begins reply r i is
-    by false l a = apart (cc)
+    by false l a = cc
     by true l a =
         let q = subst (ItemsAllowed (is_full reply)) e a in
         let t = no-texts reply l r.texts p.first in

@@ -17,7 +17,8 @@ use Rattle.basex_laws.proofs.Handed.{made}
 use Rattle.basex_laws.proofs.Listed.{next-item, next-end}
 use Rattle.demands.specs.Answered.{Answered, answered}
 use Rattle.demands.specs.BaseXCalls.{Lendable, Called, Lists, Decoded, ItemRead, ItemsEnd, decode_called, item_called}
-use Rattle.demands.proofs.BaseXCalls.Answers.{count-is, in_front}
+use Rattle.demands.proofs.Answered.{counts_as}
+use Rattle.demands.proofs.BaseXCalls.Answers.{in_front}
 use Rattle.demands.proofs.BaseXCalls.Items.{asks, comes}
 use Rattle.demands.proofs.BaseXCalls.Suffices.{decode-read}
 
@@ -49,7 +50,7 @@ module _ (kind : ℕ) (s : List ℕ) (at : ℕ) (full : Bool) (lists : Lists kin
             rest = rest;
             allowed = allowed;
             stands = e;
-            counted = count-is n (length (item_bytes i)) (omega (arith, l, d)) (omega (arith, l, d, short));
+            counted = counts_as n (length (item_bytes i)) (omega (arith, l, d)) (omega (arith, l, d, short));
             named = refl;
             uri = sym m.uri;
             text = sym m.text;

@@ -6,11 +6,12 @@ use Prim.Native.Nat.{ℕ, zero, suc, ◌+◌, ◌-◌, ◌≤◌}
 use native.Mathlib.Omega.{arith}
 use lib.ListN.{length, take, drop, length-append, length-drop}
 use borrow.Author.Tests.{le-ltb, ne_eqb}
+use Rattle.std.specs.Prelude.{Option, Some, None, Result, Ok, Err}
+use Rattle.wire.specs.declared.Refusal.{Refusal}
 use Rattle.wire.specs.Bytes.{splice}
 use Rattle.wire.proofs.Splices.{put_at-fits}
 use Rattle.basex_string.specs.Answers.{output_read}
-use Rattle.basex.specs.declared.Found.{Found}
-use Rattle.basex.specs.declared.Found.TheVariants.{Known, Unknown}
+use Rattle.basex.specs.declared.Reply.{Reply}
 use Rattle.basex.specs.Kinds.{find_of}
 use Rattle.basex.specs.Response.{Item, Response, item_bytes, Stands}
 use Rattle.basex_response.specs.declared.ItemAt.{ItemAt}
@@ -20,15 +21,14 @@ use Rattle.basex_response.specs.Reading as responses
 use Rattle.basex_response.specs.Reading.{all_texts}
 use Rattle.basex_response.specs.Writing.{item_of, full_of}
 use Rattle.basex_laws.specs.Calls.{listed_of, handed, handed_next}
-use Rattle.wire.proofs.Branches.{apart}
 use Rattle.basex_laws.proofs.Exactly.{told_exactly}
 use Rattle.basex_laws.proofs.Laws.{items-all}
 use Rattle.basex_laws.proofs.Responses.{response_exact}
 use Rattle.basex_c.specs.Codes.{Outcome, lent}
 use Rattle.demands.specs.Answered.{Answered, answered}
 use Rattle.demands.specs.BaseXCalls.{Lendable, Called, telling, Lists, item_numbers, onward, walked}
-use Rattle.demands.proofs.BaseXCalls.Answers.{counts}
-use Rattle.demands.proofs.BaseXCalls.Items.{item-some, asks, refused_as, comes}
+use Rattle.demands.proofs.BaseXCalls.Answers.{refused_as, counts}
+use Rattle.demands.proofs.BaseXCalls.Items.{item-some, asks, comes}
 
 -- the items that calls tell are those that the library hands out
 module _ (kind : ℕ) (s : List ℕ) (short : Lendable s) (out told : List ℕ) (three : 3 ≤ length told) (full : Bool) (l : Lists kind full) where
@@ -39,11 +39,11 @@ module _ (kind : ℕ) (s : List ℕ) (short : Lendable s) (out told : List ℕ) 
       → telling [] 0 [] told (lent (length told) (Outcome.counted n ns)) ≡ record { answer = answered n; out = splice [] 0 []; told = ns ++ drop (length ns) told }
   counted_as n ns h = rw (le-ltb (length told) (length ns) h)
 
-  step : (at to : ℕ) (then more : ℕ → ℕ → List Item) → ((a t : ℕ) → then a t ≡ more a t) → (y : ItemAt) → item_at full at (length s - at) (next full (drop at s)) ≡ y
+  step : (at to : ℕ) (then more : ℕ → ℕ → List Item) → ((a t : ℕ) → then a t ≡ more a t) → (y : Result ItemAt Refusal) → item_at full at (length s - at) (next full (drop at s)) ≡ y
       → goes at to then (comes kind s at told y) ≡ handed_next full out to y more
-  step at to then more same (item-at.Refused r) e = ap (goes at to then) (refused_as kind s at told r)
-  step at to then more same (item-at.End n) e = ap (goes at to then) (counted_as 0 [] (omega arith))
-  step at to then more same (item-at.Item id uri text n) e =
+  step at to then more same (Err r) e = ap (goes at to then) (refused_as [] 0 [] told r)
+  step at to then more same (Ok (item-at.End n)) e = ap (goes at to then) (counted_as 0 [] (omega arith))
+  step at to then more same (Ok (item-at.Item id uri text n)) e =
       let t = (told_exactly.item-told full s at id uri text n).0 e in
       let bytes = item_bytes t.item in
       let c = counts s short bytes n t.place at t.stands in
@@ -63,12 +63,12 @@ module _ (kind : ℕ) (s : List ℕ) (short : Lendable s) (out told : List ℕ) 
     unfolding walked handed
     walks zero at to = refl
     walks (suc n) at to =
-        rw whole (ap (λ (y : ItemAt). goes at to (walked n kind s out told) (comes kind s at told y)) (asks kind s at full l)
+        rw whole (ap (λ (y : Result ItemAt Refusal). goes at to (walked n kind s out told) (comes kind s at told y)) (asks kind s at full l)
         ∙ step at to (walked n kind s out told) (handed n full s out) (walks n) (item_at full at (length s - at) (next full (drop at s))) refl)
 
-lists_of : (kind : ℕ) (f : Found) → find_of kind ≡ f → listed_of f ≡ true → Lists kind (full_of f)
-lists_of kind Unknown k e = apart (cc)
-lists_of kind (Known n reply) k e = record { strings = n; reply = reply; known = k; list = e; uris = refl }
+lists_of : (kind : ℕ) (f : Option (ℕ × Reply)) → find_of kind ≡ f → listed_of f ≡ true → Lists kind (full_of f)
+lists_of kind None k e = cc
+lists_of kind (Some (n, reply)) k e = record { strings = n; reply = reply; known = k; list = e; uris = refl }
 
 pub items_walked : (kind : ℕ) (s : List ℕ) → Lendable s → listed_of (find_of kind) ≡ true → (r : Response) (rest out told : List ℕ) → Stands kind r s rest
     → length (flatten (all_texts r)) ≤ length out → 3 ≤ length told

@@ -8,27 +8,27 @@ use Rattle.parts_cut.proofs.Cuts.{typed_first, typed_following}
 use Rattle.parts_cut.proofs.Answers.{settles, not_allowed}
 use Rattle.parts_cut.proofs.write_typed_item_part.Goals as goal
 
-pub returns-then-k-eq0 : goal.returns-then-k-eq0
+pub returns-in-0 : goal.returns-in-0
 unfolding allowed
-returns-then-k-eq0 c =
+returns-in-0 c =
     let a = c.args in
     settles (allowed (Body.item a.class a.kind Url.absent a.text.now)) true (cut_typed_item a.class a.kind Url.absent a.text.now) a.k
-    a.out.now _ _ (sym c.item_allowed.ensures ∙ c.if-item_allowed.true) refl
-    (typed_first a.class a.kind Url.absent a.text.now a.k c.if-k-eq0.true c.first-t.ensures)
+    a.out.now _ _ (sym c.item_allowed.ensures ∙ c.if-not-item_allowed.false) refl
+    (typed_first a.class a.kind Url.absent a.text.now a.k c.in-0.is c.first.ensures)
     c.write_item.ensures
 
-pub returns-then-item_allowed : goal.returns-then-item_allowed
+pub returns-in_default : goal.returns-in_default
 unfolding allowed
-returns-then-item_allowed c =
+returns-in_default c =
     let a = c.args in
     settles (allowed (Body.item a.class a.kind Url.absent a.text.now)) true (cut_typed_item a.class a.kind Url.absent a.text.now) a.k
-    a.out.now _ _ (sym c.item_allowed.ensures ∙ c.if-item_allowed.true) refl
+    a.out.now _ _ (sym c.item_allowed.ensures ∙ c.if-not-item_allowed.false) refl
     (typed_following a.class a.kind Url.absent a.text.now a.k (omega arith) c.rest.ensures)
     c.write_following.ensures
 
-pub returns : goal.returns
+pub returns-then-not-item_allowed : goal.returns-then-not-item_allowed
 unfolding allowed
-returns c =
+returns-then-not-item_allowed c =
     let a = c.args in
     not_allowed (allowed (Body.item a.class a.kind Url.absent a.text.now)) true (cut_typed_item a.class a.kind Url.absent a.text.now) a.k
-    a.out.now (sym c.item_allowed.ensures ∙ c.if-item_allowed.false)
+    a.out.now (sym c.item_allowed.ensures ∙ c.if-not-item_allowed.true)

@@ -1,8 +1,9 @@
 -- Bounds that private functions ask for, or keep, so that no sum wraps.
 use mathlib.Core.{Bool.true, Path.◌≡◌}
-use Rattle.std.specs.Prelude.{ℕ, ◌^◌, ◌≤◌, ◌<◌}
+use Rattle.std.specs.Prelude.{Option, Some, None, Result, Ok, Err, ℕ, ◌^◌, ◌≤◌, ◌<◌}
 use Rattle.sedna_instant.specs.{declared.fields.Clock.Clock, declared.fields.Fraction.Fraction, declared.fields.Year.Year}
-use Rattle.sedna_instant.specs.{declared.fields.ZoneFound.ZoneFound, DateTimes.is_formed}
+use Rattle.sedna_instant.specs.DateTimes.{is_formed, year_was, fraction_was}
+use Rattle.wire.specs.declared.Refusal.{Refusal}
 
 -- a contract: the call answers this, within a bound
 pub record GivesWithin {A : Type 0} (bound : A → Type 0) (answer r : A) : Type 0 where
@@ -29,17 +30,20 @@ pub record InCalendar (year month day : ℕ) : Type 0 where
 abbrev pub FractionFits : Fraction → Type 0
 FractionFits f = f.count ≤ 9 → f.number < 10 ^ f.count
 
+abbrev pub FoundFits : Option Fraction → Type 0
+FoundFits (Some f) = FractionFits f
+FoundFits None = Unit {0}
+
 -- what a zone adds is no more than a day and fourteen hours
-abbrev pub ShiftBounded : ZoneFound → Type 0
-ShiftBounded ZoneFound.Malformed = Unit {0}
-ShiftBounded ZoneFound.Missing = Unit {0}
-ShiftBounded (ZoneFound.Shift shift) = shift ≤ 136800
+abbrev pub ShiftBounded : Result ℕ Refusal → Type 0
+ShiftBounded (Ok shift) = shift ≤ 136800
+ShiftBounded (Err r) = Unit {0}
 
 -- a dateTime of its form, as it was read
-pub record FieldsRead (y : Year) (c : Clock) (f : Fraction) (z : ZoneFound) : Type 0 where
-  pub formed : is_formed y c f ≡ true
+pub record FieldsRead (y : Year) (c : Clock) (f : Fraction) (shift : ℕ) : Type 0 where
+  pub formed : is_formed (year_was y) c (fraction_was f) ≡ true
   pub fraction : FractionFits f
-  pub zone : ShiftBounded z
+  pub shift_136800 : shift ≤ 136800
 
 -- what the seconds are counted of
 pub record SecondsFit (year : ℕ) (c : Clock) (shift : ℕ) : Type 0 where

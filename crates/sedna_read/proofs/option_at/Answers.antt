@@ -1,76 +1,36 @@
-use Rattle.sedna_read.specs.Reading.{pair_field}
-use mathlib.Core.List.{List}
-use Rattle.wire.specs.declared.Place.{Place}
-use Rattle.sedna_read.specs.Places.{option_place, option_at}
-use mathlib.Core.Path.{◌≡◌, subst, sym, ap, ◌∙◌}
-use Prim.Native.Nat.{ℕ, ◌+◌, ◌-◌}
+use Prim.Native.Nat.{suc, ◌+◌, ◌-◌}
+use mathlib.Core.Path.{◌≡◌, sym, ap, ◌∙◌}
 use native.Mathlib.Omega.{arith}
-use lib.ListN.{length}
-use Rattle.sedna_read.specs.inner.Bodies.{window, PairWithin}
+use Rattle.sedna_read.specs.Places.{option_at}
+use Rattle.sedna_read.proofs.Pairs.{option-here, option-ahead, option-missing, option_past}
 use Rattle.sedna_read.proofs.Windows.{clipped}
-use Rattle.sedna_read.proofs.Forms.{pair-next}
-use Rattle.sedna_read.proofs.Pairs.{option-refused, option-next, option_here, option_past, place-refused, place_found}
 use Rattle.sedna_read.proofs.option_at.Goals as goal
 
-pub returns-then-n-start : goal.returns-then-n-start
-returns-then-n-start c =
+pub returns-then-bytes-at : goal.returns-then-bytes-at
+returns-then-bytes-at c =
     let a = c.args in
-    sym (option_past a.k a.bytes.now a.pairs.start a.pairs.len c.if-n-start.true)
+    sym (option_past a.k a.bytes.now a.pairs.start a.pairs.len c.if-bytes-at.true)
 
-pub loop-i-init : goal.loop-i-init
-loop-i-init c =
+pub loop-init : goal.loop-init
+loop-init c =
     let a = c.args in
-    let e : a.k - 0 ≡ a.k = omega arith in (omega arith, (omega arith, (omega arith, rw e)))
+    let e : a.k - 0 ≡ a.k = omega arith in
+    rw e (ap (option_at a.k a.pairs.start) (clipped a.bytes.now a.pairs.start a.pairs.len (a.pairs.start + c.min.result) c.if-bytes-at.false (omega arith)))
 
-pub returns-in-Refused : goal.returns-in-Refused
-returns-in-Refused c =
-    let a = c.args in
-    sym (ap (option_at a.k a.pairs.start) (clipped a.bytes.now a.pairs.start a.pairs.len c.end_of-end.result c.if-n-start.false c.end_of-end.ensures)
-    ∙ c.loop-i.invariant.1.1.1 ∙ option-refused a.bytes.now c.loop-i.p c.end_of-end.result a.k
-    c.loop-i.i c.loop-i-test.true _
-    (place-refused c.loop-i.p _ _ (sym c.pair_at.ensures.0 ∙ c.in-Refused.is)))
+pub returns-in_err-ok : goal.returns-in_err-ok
+returns-in_err-ok c =
+    let l = c.loop in
+    let e : c.args.k - l.counter ≡ suc (c.args.k - (l.counter + 1)) = omega arith in
+    c.from_residual.ensures ∙ sym (l.invariant ∙ rw e (option-missing l.fields c.pair.new.self c.pair.result c.pair.ensures (sym c.in_err-ok.ensures.value) (c.args.k - (l.counter + 1))))
 
-pub overflow_add-p : goal.overflow_add-p
-overflow_add-p c =
-    let w = subst (PairWithin c.loop-i.p c.end_of-end.result) c.in-At.is c.pair_at.ensures.1 in omega arith
+pub loop-preserved : goal.loop-preserved
+loop-preserved c =
+    let l = c.loop in
+    let e : c.args.k - l.counter ≡ suc (c.args.k - (l.counter + 1)) = omega arith in
+    l.invariant ∙ rw e (option-ahead l.fields c.pair.new.self c.pair.result c.pair.ensures _ c.in_ok-ok.ensures.value (c.args.k - (l.counter + 1)))
 
-pub loop-i-preserved : goal.loop-i-preserved
-loop-i-preserved c =
-    let w = subst (PairWithin c.loop-i.p c.end_of-end.result) c.in-At.is c.pair_at.ensures.1 in
-    let q = pair-next c.args.bytes.now c.loop-i.p c.end_of-end.result c.loop-i.invariant.1.0 _ _
-    (sym c.pair_at.ensures.0 ∙ c.in-At.is) in
-    let a : c.in-At.value.start ≡ c.loop-i.p + 9 = ap (λ (x : Place). x.start) q.2 in
-    let b : c.in-At.value.len ≡ length q.0.value = ap (λ (x : Place). x.len) q.2 in
-    let e : c.loop-i.p + 9 + length q.0.value ≡ c.in-At.value.start + c.in-At.value.len = omega arith in
-    let rest : List ℕ = window c.args.bytes.now
-    (c.in-At.value.start + c.in-At.value.len) c.end_of-end.result in (
-      w.1,
-      (
-        c.loop-i.invariant.1.0,
-        (
-          omega arith,
-          c.loop-i.invariant.1.1.1 ∙ option-next c.args.bytes.now c.loop-i.p
-              c.end_of-end.result c.args.k c.loop-i.i c.loop-i-test.true q.0 rest q.1
-              ∙ ap (λ (m : ℕ). option_at (c.args.k - (c.loop-i.i + 1)) m rest) e,
-        ),
-      ),
-    )
-
-pub returns-in-Refused-pair_at : goal.returns-in-Refused-pair_at
-returns-in-Refused-pair_at c =
-    let a = c.args in
-    sym (ap (option_at a.k a.pairs.start) (clipped a.bytes.now a.pairs.start a.pairs.len c.end_of-end.result c.if-n-start.false c.end_of-end.ensures)
-    ∙ c.loop-i.invariant.1.1.1 ∙ option_here a.bytes.now c.loop-i.p c.end_of-end.result a.k
-    c.loop-i.i c.loop-i-test.false
-    ∙ ap (option_place c.loop-i.p)
-    (place-refused c.loop-i.p (pair_field (window a.bytes.now c.loop-i.p c.end_of-end.result)) _
-    (sym c.pair_at-2.ensures.0 ∙ c.in-Refused-pair_at.is)))
-
-pub returns-in-At-pair_at : goal.returns-in-At-pair_at
-returns-in-At-pair_at c =
-    let a = c.args in
-    sym (ap (option_at a.k a.pairs.start)
-    (clipped a.bytes.now a.pairs.start a.pairs.len c.end_of-end.result c.if-n-start.false c.end_of-end.ensures) ∙ c.loop-i.invariant.1.1.1
-    ∙ option_here a.bytes.now c.loop-i.p c.end_of-end.result a.k c.loop-i.i c.loop-i-test.false
-    ∙ place_found c.loop-i.p (pair_field (window a.bytes.now c.loop-i.p c.end_of-end.result)) _ _
-    (sym c.pair_at-2.ensures.0 ∙ c.in-At-pair_at.is))
+pub returns : goal.returns
+returns c =
+    let l = c.loop in
+    let e : c.args.k - l.counter ≡ 0 = omega arith in
+    c.ok-2.ensures.value ∙ option-here l.fields c.pair-2.new.self c.pair-2.result c.pair-2.ensures ∙ sym (l.invariant ∙ rw e)

@@ -1,12 +1,8 @@
-use Rattle.sedna_read.specs.Places.{option_at}
 use mathlib.Core.Path.{◌≡◌}
-use Prim.Native.Nat.{◌-◌, ◌≤◌}
-use lib.ListN.{length}
-use Rattle.sedna_read.specs.inner.Bodies.{window}
+use Prim.Native.Nat.{◌-◌}
+use lib.ListN.{take, drop}
+use Rattle.sedna_read.specs.Places.{option_at}
 use Rattle.sedna_read.proofs.option_at.Given as goal
 
-abbrev pub invariant-loop-i : goal.invariant-loop-i
-invariant-loop-i l = (l.p ≤ l.end) × ((l.end ≤ length l.bytes) × ((l.i ≤ l.k) × (option_at l.k l.start (window l.bytes l.start l.end) ≡ option_at (l.k - l.i) l.p (window l.bytes l.p l.end))))
-
-abbrev pub decreases-loop-i : goal.decreases-loop-i
-decreases-loop-i l = l.k - l.i
+abbrev pub invariant-loop : goal.invariant-loop
+invariant-loop l = option_at l.k l.fn.pairs.start (take l.fn.pairs.len (drop l.fn.pairs.start l.bytes)) ≡ option_at (l.k - l.counter) l.fields.at l.fields.bytes

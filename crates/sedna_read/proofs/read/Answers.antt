@@ -1,5 +1,6 @@
+use Rattle.std.specs.Prelude.{Option}
+use Rattle.sedna.specs.declared.{Side.Side, Shape.Shape}
 use mathlib.Core.Path.{◌∙◌, ap}
-use Rattle.sedna.specs.declared.Found.{Found}
 use Rattle.sedna.specs.Table.{find_of}
 use Rattle.sedna_read.specs.Places.{located}
 use Rattle.sedna_read.specs.Reading.{reading, reading_by}
@@ -14,4 +15,4 @@ returns c =
     let found = f.ensures ∙ ap find_of c.get_int.ensures.0 in
     c.read_found.ensures
     ∙ ap located (always (reading_by f.result a.side a.bytes.now))
-    ∙ ap (λ (f : Found). located (reading_by f a.side a.bytes.now)) found
+    ∙ ap (λ (f : Option (Side × Shape)). located (reading_by f a.side a.bytes.now)) found

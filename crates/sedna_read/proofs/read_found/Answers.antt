@@ -1,40 +1,37 @@
-use mathlib.Core.Path.{sym, ◌∙◌}
+use Prim.Native.Nat.{◌+◌}
+use mathlib.Core.Path.{◌≡◌, sym, ◌∙◌}
 use native.Mathlib.Omega.{arith}
-use borrow.Author.Tests.{lt-ltb, le-ltb}
-use Rattle.sedna_read.specs.Reading.{heading_by}
-use Rattle.sedna_read.proofs.Heads.{head_refused, head_body, head_bounds, body-read}
+use lib.ListN.{length}
+use Rattle.std.proofs.lemmas.Result.{err_from_is_err_and}
+use Rattle.sedna_read.specs.inner.Cursor.{window}
+use Rattle.sedna_read.proofs.Windows.{length-window}
+use Rattle.sedna_read.proofs.Heads.{fields-refused, more-refused, out-of-order, in-order}
 use Rattle.sedna_read.proofs.read_found.Goals as goal
 
-pub overflow_add-end : goal.overflow_add-end
-overflow_add-end c =
+pub returns-in_err-places : goal.returns-in_err-places
+returns-in_err-places c =
     let a = c.args in
-    let w = head_bounds a.found a.side a.bytes.now _ _ (sym c.judge_found.ensures ∙ c.in-Body.is) in
-    omega arith
+    let p = err_from_is_err_and c.from_residual-in_err-places.result c.from_residual-in_err-places.ensures.1 in
+    p.1 ∙ rw p.2 (sym (fields-refused a.found a.side a.bytes.now _ _ c.in_ok-shape.ensures c.if-bytes-end.false a.in_order _ c.in_err-places.ensures))
 
-pub returns-then-bytes-end : goal.returns-then-bytes-end
-returns-then-bytes-end c =
+pub returns-in_err-nothing_left : goal.returns-in_err-nothing_left
+returns-in_err-nothing_left c =
     let a = c.args in
-    rw (head_body (heading_by a.found a.side a.bytes.now) _ _ (sym c.judge_found.ensures ∙ c.in-Body.is)) (simp (lt-ltb _ _ c.if-bytes-end.true))
+    let body = c.in_ok-places.ensures in
+    let p = err_from_is_err_and c.from_residual-in_err-nothing_left.result c.from_residual-in_err-nothing_left.ensures.1 in
+    p.1 ∙ rw p.2 (sym (more-refused a.found a.side a.bytes.now _ _ c.in_ok-shape.ensures c.if-bytes-end.false _ _ body.1 a.in_order _ c.in_err-nothing_left.ensures))
 
-pub returns-in-Refused : goal.returns-in-Refused
-returns-in-Refused c =
+pub returns-then-not-in_order : goal.returns-then-not-in_order
+returns-then-not-in_order c =
     let a = c.args in
-    rw (head_refused (heading_by a.found a.side a.bytes.now) _ (sym c.judge_found.ensures ∙ c.in-Refused.is))
+    let body = c.in_ok-places.ensures in
+    rw c.if-not-in_order.true (sym (out-of-order a.found a.side a.bytes.now _ _ c.in_ok-shape.ensures c.if-bytes-end.false _ _ body.1 c.in_ok-nothing_left.ensures))
 
-pub returns-in-Refused-body_at : goal.returns-in-Refused-body_at
-returns-in-Refused-body_at c =
+pub returns : goal.returns
+returns c =
     let a = c.args in
-    rw (head_body (heading_by a.found a.side a.bytes.now) _ _ (sym c.judge_found.ensures ∙ c.in-Body.is))
-    (simp (le-ltb _ _ c.if-bytes-end.false, body-read, ← c.body_at.ensures, c.in-Refused-body_at.is))
-
-pub returns-then-in_order : goal.returns-then-in_order
-returns-then-in_order c =
-    let a = c.args in
-    rw (head_body (heading_by a.found a.side a.bytes.now) _ _ (sym c.judge_found.ensures ∙ c.in-Body.is))
-    (simp (le-ltb _ _ c.if-bytes-end.false, body-read, ← c.body_at.ensures, c.in-Body-body_at.is, c.get_int-instruction.ensures.0, c.if-in_order.true))
-
-pub returns-else-in_order : goal.returns-else-in_order
-returns-else-in_order c =
-    let a = c.args in
-    rw (head_body (heading_by a.found a.side a.bytes.now) _ _ (sym c.judge_found.ensures ∙ c.in-Body.is))
-    (simp (le-ltb _ _ c.if-bytes-end.false, body-read, ← c.body_at.ensures, c.in-Body-body_at.is, c.if-in_order.false))
+    let n = c.in_ok-shape.n in
+    let body = c.in_ok-places.ensures in
+    let l : length (window a.bytes.now 8 (8 + n)) ≡ n = length-window a.bytes.now 8 (8 + n) c.if-bytes-end.false ∙ omega arith in
+    rw (c.if-not-in_order.false, c.get_int.ensures.0, body.2, l)
+    (sym (in-order a.found a.side a.bytes.now _ _ c.in_ok-shape.ensures c.if-bytes-end.false _ _ body.1 c.in_ok-nothing_left.ensures))

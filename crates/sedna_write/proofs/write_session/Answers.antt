@@ -1,7 +1,9 @@
 use mathlib.Core.List.{[], ◌∷◌}
+use mathlib.Core.Path.{refl}
 use Prim.Native.Nat.{◌+◌}
 use native.Mathlib.Omega.{arith}
 use lib.ListN.{length}
+use Rattle.std.proofs.lemmas.Result.{err_from_is_err_and}
 use Rattle.wire.specs.Bytes.{int}
 use Rattle.wire.proofs.Splices.{step, last}
 use Rattle.sedna.specs.Encode.{string, body_bytes}
@@ -9,38 +11,31 @@ use Rattle.sedna.specs.Message.{Body, message}
 use Rattle.sedna_write.proofs.Puts.{counted, refused, body-ahead, done, session_head}
 use Rattle.sedna_write.proofs.write_session.Goals as goal
 
+pub returns-in_err-k : goal.returns-in_err-k
+returns-in_err-k c =
+    let a = c.args in
+    let p = err_from_is_err_and c.from_residual.result c.from_residual.ensures.1 in
+    rw (p.1, p.2) (refused a.out.now (message a.instruction (Body.session a.major a.minor a.user.now a.database.now)) (session_head a.major a.minor a.user.now a.database.now c.version_allowed-allowed.ensures c.capped-n.ensures c.in_err-k.ensures) refl)
+
 pub put_string-requires : goal.put_string-requires
 put_string-requires c =
-    let f = counted c.begin-w.ensures c.in-Count.is in
-    let n = c.capped-n.ensures in
-    (omega arith, omega arith)
+    let f = counted c.in_ok-k.ensures refl in
+    (omega (arith, f.short, f.fits), omega (arith, f.short))
 
-pub overflow_add-user : goal.overflow_add-user
-overflow_add-user c =
-    let f = counted c.begin-w.ensures c.in-Count.is in
-    let n = c.capped-n.ensures in
-    omega arith
+pub put_string-requires-2 : goal.put_string-requires-2
+put_string-requires-2 c =
+    let f = counted c.in_ok-k.ensures refl in
+    (omega (arith, f.short, f.fits), omega (arith, f.short))
 
-pub put_string-requires-in-Count : goal.put_string-requires-in-Count
-put_string-requires-in-Count c =
-    let f = counted c.begin-w.ensures c.in-Count.is in
-    let n = c.capped-n.ensures in
-    (omega arith, omega arith)
-
-pub returns-in-Refused : goal.returns-in-Refused
-returns-in-Refused c =
-    let a = c.args in
-    let h = session_head a.major a.minor a.user.now a.database.now c.version_allowed-allowed.ensures c.capped-n.ensures c.begin-w.ensures in
-    refused a.out.now (message a.instruction (Body.session a.major a.minor a.user.now a.database.now)) h c.in-Refused.is
-
-pub returns-in-Count : goal.returns-in-Count
+pub returns : goal.returns
 unfolding body_bytes string int
-returns-in-Count c =
-    let q = c.in-Count.is in
+returns c =
     let a = c.args in
-    let h = session_head a.major a.minor a.user.now a.database.now c.version_allowed-allowed.ensures c.capped-n.ensures c.begin-w.ensures in
-    let z = body-ahead a.out.now (message a.instruction (Body.session a.major a.minor a.user.now a.database.now)) h q in
-    let z0 = step (a.major ∷ []) 9 z c.put_byte.ensures (omega arith) in
-    let z1 = step (a.minor ∷ []) 10 z0 c.put_byte-in-Count.ensures (omega arith) in
-    let z2 = step (string a.user.now) (15 + length a.user.now) z1 c.put_string.ensures (omega arith) in
-    done a.out.now (message a.instruction (Body.session a.major a.minor a.user.now a.database.now)) h q (last z2 c.put_string-in-Count.ensures)
+    let m = message a.instruction (Body.session a.major a.minor a.user.now a.database.now) in
+    let h = session_head a.major a.minor a.user.now a.database.now c.version_allowed-allowed.ensures c.capped-n.ensures c.in_ok-k.ensures in
+    let f = counted c.in_ok-k.ensures refl in
+    let z = body-ahead a.out.now m h refl in
+    let z0 = step (a.major ∷ []) 9 z c.put_byte.ensures (omega (arith, f.fits)) in
+    let z1 = step (a.minor ∷ []) 10 z0 c.put_byte-2.ensures (omega (arith, f.fits)) in
+    let z2 = step (string a.user.now) (15 + length a.user.now) z1 c.put_string.ensures (omega (arith, f.fits)) in
+    done a.out.now m h refl (last z2 c.put_string-2.ensures)

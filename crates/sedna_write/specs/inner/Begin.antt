@@ -1,12 +1,14 @@
 -- What the functions that write a message's head, and its options behind it, promise and ask.
+use Rattle.std.specs.Prelude.{Result}
+use Rattle.wire.specs.declared.Refusal.{Refusal}
 use mathlib.Core.{Bool.Bool, List.List, List.◌++◌, Path.◌≡◌}
 use Rattle.std.specs.Prelude.{ℕ, ◌+◌, ◌≤◌, length}
-use Rattle.wire.specs.{Bytes.int, Call.output_after, declared.Counted.Counted}
+use Rattle.wire.specs.{Bytes.int, Call.output_after}
 use Rattle.sedna.specs.{declared.Shape.Shape, Encode.pairs_bytes}
 use Rattle.sedna_write.specs.{Pairs.sum, Pairs.pairs_of, Writing.judgement}
 
 -- a message is judged, and its head written in front of the output where nothing is refused
-pub record Begins (out : List ℕ) (instruction : ℕ) (shape : Shape) (ok : Bool) (n : ℕ) (r : Counted) (after : List ℕ) : Type 0 where
+pub record Begins (out : List ℕ) (instruction : ℕ) (shape : Shape) (ok : Bool) (n : ℕ) (r : Result ℕ Refusal) (after : List ℕ) : Type 0 where
   pub answers : r ≡ judgement instruction shape ok n (length out)
   pub leaves : after ≡ output_after r out 0 (int instruction ++ int n)
 

@@ -1,20 +1,8 @@
-use mathlib.Core.Path.{sym, ◌∙◌}
+use Rattle.std.proofs.Common.{◌≡◌, ◌∙◌, sym, ap, ◌/◌, ◌%◌, ℕ, List}
 use native.Mathlib.Omega.{arith}
-use Rattle.wire.specs.Bytes.{int}
-use Rattle.wire.proofs.Splices.{put_at-fits, put_at_not}
+use Rattle.wire.specs.Call.{put_at}
+use Rattle.wire.proofs.Ints.{int-bytes}
 use Rattle.wire.proofs.put_int.Goals as goal
 
-pub returns-then-at-room : goal.returns-then-at-room
-unfolding int
-returns-then-at-room c =
-    c.store_int.ensures ∙ sym (put_at-fits _ _ (int _) (omega arith))
-
-pub returns-else-at-room : goal.returns-else-at-room
-unfolding int
-returns-else-at-room c =
-    sym (put_at_not _ _ (int _) (omega arith))
-
-pub returns-else-room-ge4 : goal.returns-else-room-ge4
-unfolding int
-returns-else-room-ge4 c =
-    sym (put_at_not _ _ (int _) (omega arith))
+pub returns : goal.returns
+returns c = c.put_bytes.ensures ∙ ap (put_at c.args.out.now c.args.at) (c.to_be_bytes.ensures ∙ int-bytes c.args.n c.ranges.n.fits)

@@ -1,21 +1,17 @@
-use mathlib.Core.List.{[], ◌∷◌}
 use mathlib.Core.Path.{refl}
-use native.Mathlib.Omega.{arith}
-use Rattle.basex_c.proofs.Told.{tells, tells_not}
+use Rattle.basex_c.proofs.Told.{nothing_told}
 use Rattle.basex_c.proofs.errors.tell_error.Goals as goal
 
-pub returns-then-place-lt2 : goal.returns-then-place-lt2
-returns-then-place-lt2 c =
-    rw c.in-At.is (tells_not _ (_ ∷ _ ∷ []) _ c.if-place-lt2.true c.refusal_code-then-place-lt2.ensures)
+pub returns-in-Err : goal.returns-in-Err
+returns-in-Err c =
+    rw c.in-Err.is (record { answers = c.refusal_code.ensures; leaves = refl })
 
-pub returns-in-Refused : goal.returns-in-Refused
-returns-in-Refused c =
-    rw c.in-Refused.is (record { answers = c.refusal_code.ensures; leaves = refl })
+pub returns-in-Ok-None : goal.returns-in-Ok-None
+returns-in-Ok-None c =
+    let p = rw c.in-Ok-None.is at c.in-Ok-None.field-0-is in
+    rw (c.in-Ok-None.is, p) (nothing_told _)
 
-pub returns-in-None : goal.returns-in-None
-returns-in-None c =
-    rw c.in-None.is (tells c.args.place.now [] _ (omega arith) refl)
-
-pub returns-else-place-lt2 : goal.returns-else-place-lt2
-returns-else-place-lt2 c =
-    rw c.in-At.is (tells c.args.place.now (_ ∷ _ ∷ []) _ c.if-place-lt2.false refl)
+pub returns-in-Ok-Some : goal.returns-in-Ok-Some
+returns-in-Ok-Some c =
+    let p = rw c.in-Ok-Some.is at c.in-Ok-Some.field-0-is in
+    rw (c.in-Ok-Some.is, p) c.tell.ensures

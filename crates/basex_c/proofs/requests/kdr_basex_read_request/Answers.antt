@@ -1,3 +1,4 @@
+use Rattle.std.specs.Prelude.{Err}
 use mathlib.Core.List.{flatten}
 use mathlib.Core.Path.{refl, sym}
 use Prim.Native.Nat.{ℕ}
@@ -9,14 +10,13 @@ use Rattle.basex_string.specs.Answers.{output_read}
 use Rattle.wire.specs.declared.Refusal.TheVariants.{NoRoom}
 use Rattle.basex.specs.Request.{Request}
 use Rattle.basex_request.specs.Reading.{reading, texts_of, text_bytes, requested}
-use Rattle.basex_request.specs.declared.Requested.TheVariants.{Refused}
 use Rattle.basex_c.specs.Told.{request_told, bytes_read}
 use Rattle.basex_c.proofs.Stored.{Judged, exported}
 use Rattle.basex_c.proofs.requests.kdr_basex_read_request.Goals as goal
 
 judged : (n : ℕ) (g : Got Request) → Judged 5 request_told (λ room. requested n room g) (λ d. output_read text_bytes d 0 g) 0 (bytes_read text_bytes g)
 judged n (Got.refused r) = Judged.never (λ _. refl) (λ _. refl)
-judged n (Got.got q rest) = Judged.fits (Refused NoRoom) _ (length (flatten (texts_of q))) refl refl refl (omega arith) (λ _. refl) (λ _. refl)
+judged n (Got.got q rest) = Judged.fits (Err NoRoom) _ (length (flatten (texts_of q))) refl refl refl (omega arith) (λ _. refl) (λ _. refl)
 
 pub slice_bounds-read_request-end : goal.slice_bounds-read_request-end
 slice_bounds-read_request-end c =

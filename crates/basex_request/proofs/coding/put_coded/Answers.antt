@@ -8,7 +8,7 @@ use Rattle.wire.specs.Call.{put_at, Gives}
 use Rattle.wire.proofs.Splices.{Ahead, step, last}
 use Rattle.basex.specs.Texts.{string_if}
 use Rattle.basex.specs.Request.{Request, encode}
-use Rattle.basex.proofs.Puts.{first_fits}
+use Rattle.basex.proofs.Puts.{first_fits, put-fits}
 use Rattle.basex_request.proofs.Puts.{coded-ahead, coded-length}
 use Rattle.basex_request.specs.Calls.{four}
 use Rattle.basex_request.proofs.coding.put_coded.Goals as goal
@@ -39,36 +39,16 @@ module _ (a b c d : List ℕ) (kind n : ℕ) (out : List ℕ) (fits : length (by
       ahead-4 : {m : ℕ} {r : List ℕ} → Given l q (string_if (ltb 2 n) c) m r → Ahead (put_at out 0 (bytes a b c d kind n)) r m (string_if (ltb 3 n) d)
       ahead-4 {m} i = step (string_if (ltb 2 n) c) m ahead-3 i.leaves i.answers
 
-pub put_string_if-b-requires : goal.put_string_if-b-requires
-put_string_if-b-requires c =
-    let a = c.args in
-    first_fits _ _ (ahead a.first.now a.second.now a.third.now a.fourth.now a.kind a.n a.out.now c.requires c.put_byte.ensures)
-
-pub put_string_if-c-requires : goal.put_string_if-c-requires
-put_string_if-c-requires c =
-    let a = c.args in
-    first_fits _ _ (ahead-2 a.first.now a.second.now a.third.now a.fourth.now a.kind a.n a.out.now c.requires c.put_byte.ensures c.put_string_if-b.ensures)
-
-pub put_string_if-d-requires : goal.put_string_if-d-requires
-put_string_if-d-requires c =
-    let a = c.args in
-    first_fits _ _ (ahead-3 a.first.now a.second.now a.third.now a.fourth.now a.kind a.n a.out.now c.requires c.put_byte.ensures c.put_string_if-b.ensures c.put_string_if-c.ensures)
-
-pub put_string_if-requires : goal.put_string_if-requires
-put_string_if-requires c =
-    let a = c.args in
-    (ahead-4 a.first.now a.second.now a.third.now a.fourth.now a.kind a.n a.out.now c.requires c.put_byte.ensures c.put_string_if-b.ensures c.put_string_if-c.ensures c.put_string_if-d.ensures).fits
-
 pub returns : goal.returns
 returns c =
     let a = c.args in
     let m = coded-length a.first.now a.second.now a.third.now a.fourth.now a.kind a.n in
-    let p = c.put_string_if-b.ensures.answers in
-    let q = c.put_string_if-c.ensures.answers in
-    let r = c.put_string_if-d.ensures.answers in
-    let s = c.put_string_if.ensures.answers in
-    record {
-      answers = omega arith;
-      leaves = last (ahead-4 a.first.now a.second.now a.third.now a.fourth.now a.kind a.n a.out.now c.requires c.put_byte.ensures c.put_string_if-b.ensures c.put_string_if-c.ensures c.put_string_if-d.ensures)
-          c.put_string_if.ensures.leaves;
-    }
+    let w = ahead a.first.now a.second.now a.third.now a.fourth.now a.kind a.n a.out.now c.requires c.put_byte.ensures in
+    let p = put-fits _ _ _ c.put_string_if-b.ensures.answers c.put_string_if-b.ensures.leaves (first_fits _ _ w) in
+    let x = ahead-2 a.first.now a.second.now a.third.now a.fourth.now a.kind a.n a.out.now c.requires c.put_byte.ensures p in
+    let q = put-fits _ _ _ c.put_string_if-c.ensures.answers c.put_string_if-c.ensures.leaves (first_fits _ _ x) in
+    let y = ahead-3 a.first.now a.second.now a.third.now a.fourth.now a.kind a.n a.out.now c.requires c.put_byte.ensures p q in
+    let r = put-fits _ _ _ c.put_string_if-d.ensures.answers c.put_string_if-d.ensures.leaves (first_fits _ _ y) in
+    let z = ahead-4 a.first.now a.second.now a.third.now a.fourth.now a.kind a.n a.out.now c.requires c.put_byte.ensures p q r in
+    let s = put-fits _ _ _ c.put_string_if.ensures.answers c.put_string_if.ensures.leaves z.fits in
+    record { answers = omega (arith, p.answers, q.answers, r.answers, s.answers); leaves = last z s.leaves }

@@ -6,9 +6,9 @@ use Rattle.basex_response.specs.inner.Judging.{items_at}
 use Rattle.basex_response.proofs.Walk.{after}
 use Rattle.basex_response.proofs.items.items_at.Given as goal
 
-abbrev pub invariant-loop-r : goal.invariant-loop-r
-invariant-loop-r l = (l.count + l.at ≤ l.from) × (l.listed + l.at ≤ l.from)
+abbrev pub invariant-loop-next : goal.invariant-loop-next
+invariant-loop-next l = (l.count + l.at ≤ l.from) × (l.listed + l.at ≤ l.from)
     × (items_at l.at (length l.bytes - l.at) (list l.full (drop l.at l.bytes)) ≡ after l.count l.listed (items_at l.from (length l.bytes - l.from) (list l.full (drop l.from l.bytes))))
 
-abbrev pub decreases-loop-r : goal.decreases-loop-r
-decreases-loop-r l = length l.bytes - l.from
+abbrev pub decreases-loop-next : goal.decreases-loop-next
+decreases-loop-next l = length l.bytes - l.from

@@ -6,9 +6,6 @@ use Rattle.basex_response.specs.inner.Judging.{list_stored}
 use Rattle.basex_response.proofs.Storing.{Going}
 use Rattle.basex_response.proofs.read.put_items.Given as goal
 
-abbrev pub invariant-loop-i : goal.invariant-loop-i
-invariant-loop-i l = (l.i ≤ l.count) × (length l.out ≡ length l.initial.out) × (l.at ≤ l.from)
-    × Going l.full l.bytes (list_stored l.initial.out l.to (list l.full (drop l.at l.bytes))) l.from (l.count - l.i) l.out l.end
-
-abbrev pub decreases-loop-i : goal.decreases-loop-i
-decreases-loop-i l = l.count - l.i
+abbrev pub invariant-loop : goal.invariant-loop
+invariant-loop l = (l.counter ≤ l.count) × (length l.out ≡ length l.initial.out) × (l.at ≤ l.from)
+    × Going l.full l.bytes (list_stored l.initial.out l.to (list l.full (drop l.at l.bytes))) l.from (l.count - l.counter) l.out l.end

@@ -1,18 +1,19 @@
+use Rattle.std.specs.Prelude.{Ok}
 use mathlib.Core.Path.{◌≡◌, refl, sym, ap, ◌∙◌}
-use mathlib.Core.Bool.{Bool}
+use mathlib.Core.Bool.{Bool, true}
 use mathlib.Core.List.{List, [], ◌∷◌, ◌++◌}
 use Prim.Native.Nat.{ℕ, ◌+◌, ◌≤◌}
 use native.Mathlib.Omega.{arith}
 use lib.ListN.{length}
 use Rattle.wire.specs.Bytes.{splice}
 use Rattle.wire.specs.Call.{in_room, put_at, Gives}
-use Rattle.wire.specs.declared.Counted.TheVariants.{Count}
 use Rattle.wire.proofs.Splices.{Ahead, start, step, last, put_at-fits, put_at_not}
 use Rattle.wire.proofs.Call.{refused-short, counted-there}
+use Rattle.basex_string.proofs.Handed.{handed}
 use Rattle.basex_string.specs.Strings.{string}
 use Rattle.basex.specs.Texts.{string_if}
 use Rattle.basex_response.specs.inner.Spelling.{item_parts}
-use Rattle.basex.proofs.Puts.{first_fits}
+use Rattle.basex.proofs.Puts.{first_fits, put-fits}
 use Rattle.basex_response.proofs.Writes.{item-parts-size}
 use Rattle.basex_response.proofs.write.put_item.Goals as goal
 
@@ -21,7 +22,7 @@ module _ (uris : Bool) (id : ℕ) (uri text : List ℕ) where
   sizes : {u t : ℕ} → u ≡ length (string_if uris uri) → t ≡ length (string text) → length (item_parts uris id uri text) ≡ 1 + u + t + 0
   sizes p q = omega (arith, item-parts-size uris id uri text)
 
-  fits : (at : ℕ) {u t room n : ℕ} → u ≡ length (string_if uris uri) → t ≡ length (string text) → in_room room at (1 + u + t + 0) ≡ Count n → at + length (item_parts uris id uri text) ≤ room
+  fits : (at : ℕ) {u t room n : ℕ} → u ≡ length (string_if uris uri) → t ≡ length (string text) → in_room room at (1 + u + t + 0) ≡ Ok n → at + length (item_parts uris id uri text) ≤ room
   fits at {u} {t} {room} {n} p q e =
       let k = sizes p q in
       let f = (counted-there room at (1 + u + t + 0) n e).1 in
@@ -39,39 +40,30 @@ module _ (uris : Bool) (id : ℕ) (uri text : List ℕ) where
 pub overflow_add-at : goal.overflow_add-at
 overflow_add-at c =
     let a = c.args in
-    let f = fits a.uris a.id a.uri.now a.text.now a.at c.size_if-first.ensures c.size_if-second.ensures (sym c.parts_in_room-room.ensures ∙ c.in-Count.is) in
+    let f = fits a.uris a.id a.uri.now a.text.now a.at c.size_if-first.ensures c.size_if-second.ensures (sym c.parts_in_room.ensures ∙ c.in_ok-n.was) in
     omega arith
 
-pub put_string_if-next-requires : goal.put_string_if-next-requires
-put_string_if-next-requires c =
-    let a = c.args in
-    let f = fits a.uris a.id a.uri.now a.text.now a.at c.size_if-first.ensures c.size_if-second.ensures (sym c.parts_in_room-room.ensures ∙ c.in-Count.is) in
-    first_fits (string_if a.uris a.uri.now) (string a.text.now) (id-put a.uris a.id a.uri.now a.text.now a.out.now a.at f c.put_byte.ensures)
-
-pub put_string_if-requires : goal.put_string_if-requires
-put_string_if-requires c =
-    let a = c.args in
-    let f = fits a.uris a.id a.uri.now a.text.now a.at c.size_if-first.ensures c.size_if-second.ensures (sym c.parts_in_room-room.ensures ∙ c.in-Count.is) in
-    (uri-put a.uris a.id a.uri.now a.text.now a.out.now a.at f c.put_byte.ensures c.put_string_if-next.ensures).fits
-
-pub returns-in-Refused : goal.returns-in-Refused
-returns-in-Refused c =
+pub returns-in_err-n : goal.returns-in_err-n
+returns-in_err-n c =
     let a = c.args in
     let k = sizes a.uris a.id a.uri.now a.text.now c.size_if-first.ensures c.size_if-second.ensures in
     let n = (refused-short (length a.out.now) a.at (1 + c.size_if-first.result + c.size_if-second.result + 0) _
-    (sym c.parts_in_room-room.ensures ∙ c.in-Refused.is)).1 in
+    (sym c.parts_in_room.ensures ∙ c.in_err-n.was)).1 in
     record {
-      answers = sym c.in-Refused.is ∙ c.parts_in_room-room.ensures ∙ ap (in_room (length a.out.now) a.at) (sym k);
+      answers = handed _ c.from_residual.ensures.1 ∙ sym c.in_err-n.was ∙ c.parts_in_room.ensures ∙ ap (in_room (length a.out.now) a.at) (sym k);
       leaves = sym (put_at_not a.out.now a.at (item_parts a.uris a.id a.uri.now a.text.now) (omega arith));
     }
 
-pub returns-in-Count : goal.returns-in-Count
-returns-in-Count c =
+pub returns : goal.returns
+returns c =
     let a = c.args in
     let k = sizes a.uris a.id a.uri.now a.text.now c.size_if-first.ensures c.size_if-second.ensures in
-    let f = fits a.uris a.id a.uri.now a.text.now a.at c.size_if-first.ensures c.size_if-second.ensures (sym c.parts_in_room-room.ensures ∙ c.in-Count.is) in
+    let f = fits a.uris a.id a.uri.now a.text.now a.at c.size_if-first.ensures c.size_if-second.ensures (sym c.parts_in_room.ensures ∙ c.in_ok-n.was) in
+    let i = id-put a.uris a.id a.uri.now a.text.now a.out.now a.at f c.put_byte.ensures in
+    let p = put-fits _ _ _ c.put_string_if-next.ensures.answers c.put_string_if-next.ensures.leaves (first_fits (string_if a.uris a.uri.now) (string a.text.now) i) in
+    let u = uri-put a.uris a.id a.uri.now a.text.now a.out.now a.at f c.put_byte.ensures p in
+    let q = put-fits _ _ (string_if true a.text.now) c.put_string_if.ensures.answers c.put_string_if.ensures.leaves u.fits in
     record {
-      answers = sym c.in-Count.is ∙ c.parts_in_room-room.ensures ∙ ap (in_room (length a.out.now) a.at) (sym k);
-      leaves = last (uri-put a.uris a.id a.uri.now a.text.now a.out.now a.at f c.put_byte.ensures c.put_string_if-next.ensures) c.put_string_if.ensures.leaves
-          ∙ sym (put_at-fits a.out.now a.at (item_parts a.uris a.id a.uri.now a.text.now) f);
+      answers = sym c.in_ok-n.was ∙ c.parts_in_room.ensures ∙ ap (in_room (length a.out.now) a.at) (sym k);
+      leaves = last u q.leaves ∙ sym (put_at-fits a.out.now a.at (item_parts a.uris a.id a.uri.now a.text.now) f);
     }

@@ -30,13 +30,8 @@ overflow_add-next c =
     let f = (status-put a.out.now a.at a.list a.status a.n a.error.now c.requires c.put_zero-next.ensures c.put_byte.ensures).fits in
     omega arith
 
-pub put_string_if-requires : goal.put_string_if-requires
-put_string_if-requires c =
-    let a = c.args in
-    (status-put a.out.now a.at a.list a.status a.n a.error.now c.requires c.put_zero-next.ensures c.put_byte.ensures).fits
-
 pub returns : goal.returns
 returns c =
     let a = c.args in
-    last (status-put a.out.now a.at a.list a.status a.n a.error.now c.requires c.put_zero-next.ensures c.put_byte.ensures) c.put_string_if.ensures.leaves
-    ∙ sym (put_at-fits a.out.now a.at (last_parts a.list a.status a.n a.error.now) c.requires)
+    let w = status-put a.out.now a.at a.list a.status a.n a.error.now c.requires c.put_zero-next.ensures c.put_byte.ensures in
+    last w c.put_string_if.ensures.leaves ∙ sym (put_at-fits a.out.now a.at (last_parts a.list a.status a.n a.error.now) c.requires)

@@ -1,5 +1,6 @@
 use mathlib.Core.Path.{refl, sym, ◌∙◌}
 use lib.ListN.{length}
+use Rattle.basex_string.proofs.Handed.{handed, was-some, was-none}
 use Rattle.basex_response.specs.Writing.{end_written}
 use Rattle.basex_response.proofs.Writes.{refused_writes, put_writes}
 use Rattle.basex_response.proofs.Ends.{end_refused, end-bytes, end-answer}
@@ -11,18 +12,19 @@ returns-then-not-end_allowed c =
     let a = c.args in
     refused_writes _ _ a.out.now a.at _
     (end_refused (length a.out.now) a.at _ _ a.first.now a.second.now a.status a.error.now a.kind
-    (sym c.find.ensures ∙ c.in-Known.is) (sym c.end_allowed.ensures ∙ c.if-not-end_allowed.true))
+    (sym c.find.ensures ∙ was-some _ _ c.in_ok-reply.ensures.value) (sym c.end_allowed.ensures ∙ c.if-not-end_allowed.true))
 
-pub returns-in-Unknown : goal.returns-in-Unknown
+pub returns-in_err-reply : goal.returns-in_err-reply
 unfolding end_written
-returns-in-Unknown c =
-    rw (sym c.find.ensures ∙ c.in-Unknown.is) (record { answers = refl; leaves = refl })
+returns-in_err-reply c =
+    let n = was-none c.find.result c.in_err-reply.ensures.value in
+    rw (handed _ c.from_residual.ensures.1, n.1) (rw (sym c.find.ensures ∙ n.0) (record { answers = refl; leaves = refl }))
 
-pub returns-else-not-end_allowed : goal.returns-else-not-end_allowed
+pub returns : goal.returns
 unfolding end_written
-returns-else-not-end_allowed c =
+returns c =
     let a = c.args in
-    let k = sym c.find.ensures ∙ c.in-Known.is in
+    let k = sym c.find.ensures ∙ was-some _ _ c.in_ok-reply.ensures.value in
     let d = sym c.end_allowed.ensures ∙ c.if-not-end_allowed.false in
     put_writes a.out.now a.at _ _ (end-bytes (length a.out.now) a.at _ _ a.first.now a.second.now a.status a.error.now a.kind k d) _
     (end-answer (length a.out.now) a.at _ _ a.first.now a.second.now a.status a.error.now a.kind k d)

@@ -6,14 +6,14 @@ use Rattle.basex_string.proofs.count.count_specials.Goals as goal
 
 pub count_few-n-requires : goal.count_few-n-requires
 count_few-n-requires c =
-    let l = part_length c.args.text.now c.loop-i.i c.least.result (omega arith) in
+    let l = part_length c.args.text.now c.loop-i.i c.min.result (omega arith) in
     omega arith
 
 pub overflow_add-n : goal.overflow_add-n
 overflow_add-n c =
     let s = c.args.text.now in
     let i = c.loop-i.i in
-    let e = specials-next s i (i + c.least.result) (omega arith) in
+    let e = specials-next s i (i + c.min.result) (omega arith) in
     let w = specials-within s in
     omega arith
 
@@ -21,7 +21,7 @@ pub loop-i-preserved : goal.loop-i-preserved
 loop-i-preserved c =
     let s = c.args.text.now in
     let i = c.loop-i.i in
-    let e = specials-next s i (i + c.least.result) (omega arith) in
+    let e = specials-next s i (i + c.min.result) (omega arith) in
     omega arith
 
 pub returns : goal.returns

@@ -17,30 +17,13 @@ pub loop-k-preserved : goal.loop-k-preserved
 loop-k-preserved c =
     let a = c.args in
     let l = c.loop-k in
-    let i : ℕ = a.from + l.k in
     let m = c.put_bytes in
     let p = leb-true _ _ (sym c.plain_block.ensures ∙ c.if-plain_block.true) in
-    let s = skip_next a.bytes.now a.from i 16 (omega arith) (omega arith) p in
-    let z : i + 16 - i ≡ 16 = omega arith in (
+    let s = skip_next a.bytes.now a.from (a.from + l.k) 16 (omega arith) (omega arith) p in
+    let z : a.from + l.k + 16 - (a.from + l.k) ≡ 16 = omega arith in (
       m.auto.out ∙ l.invariant.0,
       omega arith,
       omega arith,
       copied_more a.bytes.now a.out.now a.from a.to l.k 16 l.invariant.3 (omega arith) (omega arith)
-          (m.ensures ∙ ap (λ (o : ℕ). put_at l.out (a.to + l.k) (take o (drop i a.bytes.now))) z),
+          (m.ensures ∙ ap (λ (o : ℕ). put_at l.out (a.to + l.k) (take o (drop (a.from + l.k) a.bytes.now))) z),
     )
-
-pub shape_of-out-else-plain_block : goal.shape_of-out-else-plain_block
-shape_of-out-else-plain_block c =
-    c.loop-k.invariant.0
-
-pub returns-else-plain_block : goal.returns-else-plain_block
-returns-else-plain_block c =
-    let v = c.loop-k.invariant in (v.1, v.2, v.3)
-
-pub shape_of-out : goal.shape_of-out
-shape_of-out c =
-    c.loop-k.invariant.0
-
-pub returns : goal.returns
-returns c =
-    let v = c.loop-k.invariant in (v.1, v.2, v.3)

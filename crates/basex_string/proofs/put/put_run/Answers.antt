@@ -19,7 +19,7 @@ returns c =
     let d = length-drop a.from a.bytes.now in
     let s = run-start a.bytes.now a.from (a.from + k.result) (omega arith) (omega (arith, k.ensures.1)) in
     record {
-      answers = counted _ _ _ _ _ _ _ c.least-most.ensures (omega (arith, w, d)) k.ensures.0
+      answers = counted _ _ _ _ _ _ _ c.min-most.ensures (omega (arith, w, d)) k.ensures.0
           (omega (arith, s)) m.ensures.answers;
       leaves = m.ensures.leaves ∙ copied_over a.bytes.now a.out.now a.from a.to k.result m.result k.ensures.2 (omega arith) (omega arith);
     }

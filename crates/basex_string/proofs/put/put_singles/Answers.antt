@@ -11,15 +11,11 @@ loop-k-init c =
     let a = c.args in
     (refl, omega arith, omega arith, copied_none a.bytes.now a.out.now a.from a.to)
 
-pub shape_of-out-then-is_special : goal.shape_of-out-then-is_special
-shape_of-out-then-is_special c =
-    c.loop-k.invariant.0
-
-pub returns-then-is_special : goal.returns-then-is_special
-returns-then-is_special c =
+pub returns-else-not-is_special : goal.returns-else-not-is_special
+returns-else-not-is_special c =
     let a = c.args in
     let l = c.loop-k in
-    let e = run-special a.bytes.now (a.from + l.k) (omega arith) (sym c.is_special.ensures ∙ c.if-is_special.true) in
+    let e = run-special a.bytes.now (a.from + l.k) (omega arith) (sym c.is_special.ensures ∙ c.if-not-is_special.false) in
     let s = run-start a.bytes.now a.from (a.from + l.k) (omega arith) (omega arith) in
     record { answers = omega arith; leaves = l.invariant.3 }
 
@@ -27,14 +23,6 @@ pub loop-k-preserved : goal.loop-k-preserved
 loop-k-preserved c =
     let a = c.args in
     let l = c.loop-k in
-    let e = run-plain a.bytes.now (a.from + l.k) (omega arith) (sym c.is_special.ensures ∙ c.if-is_special.false) in
+    let e = run-plain a.bytes.now (a.from + l.k) (omega arith) (sym c.is_special.ensures ∙ c.if-not-is_special.true) in
     let s = run-start a.bytes.now a.from (a.from + l.k) (omega arith) (omega arith) in
     (simp length-set l.invariant.0, omega arith, omega arith, copied_byte a.bytes.now a.out.now a.from a.to l.k l.invariant.3 (omega arith) (omega arith))
-
-pub shape_of-out : goal.shape_of-out
-shape_of-out c =
-    c.loop-k.invariant.0
-
-pub returns : goal.returns
-returns c =
-    record { answers = omega arith; leaves = c.loop-k.invariant.3 }

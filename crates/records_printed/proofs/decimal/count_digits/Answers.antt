@@ -1,21 +1,18 @@
-use mathlib.Core.Path.{ap}
+use mathlib.Core.Path.{refl, sym}
 use native.Mathlib.Omega.{arith}
-use lib.ListN.{length}
-use Rattle.records_printed.proofs.Decimals.{decimal-one, length_more, length_some, length_most}
+use Rattle.records_printed.specs.Line.{decimal_up_to}
+use Rattle.records_printed.proofs.Decimals.{digits-of}
 use Rattle.records_printed.proofs.decimal.count_digits.Goals as goal
 
-pub overflow_add-count : goal.overflow_add-count
-overflow_add-count c =
-    omega (arith, length_most 19 c.args.n (omega arith), length_some c.loop-rest.rest)
+pub returns-then-n-eq0 : goal.returns-then-n-eq0
+unfolding decimal_up_to
+returns-then-n-eq0 c =
+    rw c.if-n-eq0.true (record { answers = refl; short = omega arith })
 
-pub loop-rest-preserved : goal.loop-rest-preserved
-loop-rest-preserved c =
-    let l = length_more c.loop-rest.rest c.loop-rest-test.true in omega arith
-
-pub returns : goal.returns
-returns c =
-    let l = ap length (decimal-one c.loop-rest.rest c.loop-rest-test.false) in record {
-      answers = omega arith;
-      short = omega
-          (arith, length_most 19 c.args.n (omega arith));
+pub returns-else-n-eq0 : goal.returns-else-n-eq0
+returns-else-n-eq0 c =
+    let k = c.ilog10 in
+    record {
+      answers = sym (digits-of c.args.n k.result k.ensures.power_le k.ensures.next_power_gt);
+      short = omega (arith, k.ensures.bound);
     }

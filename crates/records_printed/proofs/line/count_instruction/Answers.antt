@@ -4,19 +4,11 @@ use mathlib.Core.Path.{sym, ap, ◌∙◌}
 use Prim.Native.Nat.{ℕ}
 use lib.ListN.{length}
 use Rattle.records_printed.specs.Line.{decimal}
-use Rattle.records_printed.proofs.Lines.{instruction-none, instruction-some}
-use borrow.Author.Rules.{rules}
+use Rattle.records_printed.proofs.Lines.{instruction-some}
 use Rattle.records_printed.proofs.line.count_instruction.Goals as goal
 
-pub returns-then-payload-lt4 : goal.returns-then-payload-lt4
-returns-then-payload-lt4 c =
-    record {
-      answers = sym (ap length (instruction-none c.args.payload.now c.if-payload-lt4.true));
-      short = search rules;
-    }
-
-pub returns : goal.returns
-returns c =
+pub returns-else-payload-lt4 : goal.returns-else-payload-lt4
+returns-else-payload-lt4 c =
     record {
       answers =
           c.count_digits.ensures.answers ∙ ap (λ (n : ℕ). length (decimal n)) c.get_int.ensures.0

@@ -1,27 +1,22 @@
 use mathlib.Core.Path.{sym, ◌∙◌}
 use native.Mathlib.Omega.{arith}
-use Rattle.text_lines.proofs.Words.{ahead_here, ahead-on, ahead-end}
+use Rattle.text_lines.proofs.Words.{takes-shorter, ahead_here, ahead-on, ahead-end}
 use Rattle.text_lines.proofs.cut.position.Goals as goal
+
+pub loop-one-preserved : goal.loop-one-preserved
+loop-one-preserved c =
+    let l = c.loop-one in
+    let p = c.in-Some.ensures.steps in
+    let h = takes-shorter p.0 in
+    let e = ahead-on p.0 c.args.word.now l.invariant.ends (sym c.same.ensures ∙ c.if-same.false) in
+    record { bounds = omega arith; ends = p.1 ∙ l.invariant.ends; counts = omega arith }
 
 pub returns-then-same : goal.returns-then-same
 returns-then-same c =
-    let a = c.args in
-    let l = c.loop-at in
-    let f = c.front-one in
-    let e = ahead_here a.words.now l.at a.word.now f.result.now (omega arith) f.ensures.0 (sym c.same.ensures ∙ c.if-same.true) in
-    omega arith
-
-pub loop-at-preserved : goal.loop-at-preserved
-loop-at-preserved c =
-    let a = c.args in
-    let l = c.loop-at in
-    let f = c.front-one in
-    let e = ahead-on a.words.now l.at a.word.now f.result.now (omega arith) f.ensures.0 (sym c.same.ensures ∙ c.if-same.false) in
+    let e = ahead_here c.in-Some.ensures.steps.0 c.args.word.now c.loop-one.invariant.ends (sym c.same.ensures ∙ c.if-same.true) in
     omega arith
 
 pub returns : goal.returns
 returns c =
-    let a = c.args in
-    let l = c.loop-at in
-    let e = ahead-end a.words.now l.at a.word.now (omega arith) in
+    let e = ahead-end c.in-None.ensures.steps c.args.word.now in
     omega arith

@@ -1,11 +1,12 @@
 use mathlib.Core.Path.{◌≡◌}
-use Prim.Native.Nat.{◌+◌, ◌≤◌, ◌-◌}
-use lib.ListN.{length, drop}
-use Rattle.text_lines.specs.Cuts.{words_of, ahead_of}
+use Prim.Native.Nat.{◌+◌, ◌≤◌}
+use lib.ListN.{length}
+use Rattle.text_lines.specs.Cuts.{space, words_of, ahead_of}
 use Rattle.text_lines.proofs.cut.position.Given as goal
 
-abbrev pub invariant-loop-at : goal.invariant-loop-at
-invariant-loop-at l = (l.k ≤ l.at) × (ahead_of l.word (words_of l.words) ≡ l.k + ahead_of l.word (words_of (drop l.at l.words)))
-
-abbrev pub decreases-loop-at : goal.decreases-loop-at
-decreases-loop-at l = length l.words - l.at
+abbrev pub invariant-loop-one : goal.invariant-loop-one
+invariant-loop-one l = record {
+  bounds : l.k + length l.one-iterator.rest.now ≤ length l.words;
+  ends : l.one-iterator.end ≡ space;
+  counts : ahead_of l.word (words_of l.words) ≡ l.k + ahead_of l.word (words_of l.one-iterator.rest.now);
+}

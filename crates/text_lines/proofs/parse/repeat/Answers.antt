@@ -1,45 +1,40 @@
-use borrow.Author.Rules.{rules}
+use mathlib.Core.Path.{◌≡◌, sym, ap, ◌∙◌}
+use mathlib.Core.List.{List, ◌++◌}
+use Prim.Native.Nat.{ℕ, ◌+◌, ◌-◌}
 use native.Mathlib.Omega.{arith}
+use lib.ListN.{length, take, drop, get_or, replicate, length-drop}
+use lib.Seq.{length-take-le}
+use Rattle.wire.specs.Bytes.{splice}
+use Rattle.wire.proofs.Call.{is-room, no_room}
 use Rattle.text_lines.proofs.Fronts.{refuses}
-use Rattle.text_lines.proofs.Again.{last-short, last_of_none, last_never, last-long, last_end, again-start, again-next}
-use mathlib.Core.Path.{◌≡◌}
+use Rattle.text_lines.proofs.Again.{last_of_none, last_never, last-long, last_end, filled}
 use Rattle.text_lines.proofs.parse.repeat.Goals as goal
+use Rattle.text_lines.proofs.parse.repeat.Goals.{then-n-eq0-via-then-n-eq0, then-n-eq0-via-else-n-eq0+then-times-eq0, then-n-eq0-via-else-n-eq0+else-times-eq0+then-not-has_room}
 
 pub returns-then-n-eq0 : goal.returns-then-n-eq0
 returns-then-n-eq0 c =
-    let a = c.args in
-    refuses (last_of_none a.out.now a.n a.times c.if-n-eq0.true)
-
-pub returns-then-times-eq0 : goal.returns-then-times-eq0
-returns-then-times-eq0 c =
-    let a = c.args in
-    refuses (last_never a.out.now a.n a.times c.if-times-eq0.true)
-
-pub returns-then-out-n : goal.returns-then-out-n
-returns-then-out-n c =
-    let a = c.args in
-    refuses (last-short a.out.now a.n a.times c.if-out-n.true)
-
-pub returns-then-out-n-2 : goal.returns-then-out-n-2
-returns-then-out-n-2 c =
-    let a = c.args in
-    refuses (last-long a.out.now a.n a.times (omega arith) c.if-n-eq0.false c.if-times-eq0.false (omega arith))
-
-pub loop-i-init : goal.loop-i-init
-loop-i-init c =
-    let a = c.args in
-    (search rules, search rules, search rules, again-start a.out.now a.n (omega arith))
-
-pub loop-i-preserved : goal.loop-i-preserved
-loop-i-preserved c =
-    let a = c.args in
-    let l = c.loop-i in
-    (search rules, search rules, search rules, again-next a.out.now a.n l.i _ (omega arith) (omega arith) (omega arith) (omega arith) l.invariant.3 c.put_byte.ensures)
+    let d = c.args.out.now in
+    let n = c.args.n in
+    let times = c.args.times in
+    refuses (elim c.then-n-eq0.branch [
+      | then-n-eq0-via-then-n-eq0 w ↦ last_of_none d n times w.if-n-eq0.true
+      | then-n-eq0-via-else-n-eq0+then-times-eq0 w ↦ last_never d n times w.if-times-eq0.true
+      | then-n-eq0-via-else-n-eq0+else-times-eq0+then-not-has_room w ↦
+          last-long d n times w.if-n-eq0.false w.if-times-eq0.false (no_room _ _ _ w.has_room.ensures w.if-not-has_room.true)
+    ])
 
 pub returns : goal.returns
 returns c =
-    let a = c.args in
-    let l = c.loop-i in
-    let e : l.i ≡ a.times = omega arith in
-    last_end a.out.now a.n a.times (omega arith) c.if-n-eq0.false c.if-times-eq0.false _
-    (omega arith) (omega arith) (rw e at l.invariant.3)
+    let d = c.args.out.now in
+    let n = c.args.n in
+    let times = c.args.times in
+    let k = times - 1 in
+    let ys = c.fill.new.self in
+    let b = get_or d (n - 1) 0 in
+    let h = is-room _ _ _ c.has_room.ensures c.if-not-has_room.false in
+    let m : n + k - n ≡ k = omega arith in
+    let g : length (take (n + k - n) (drop n d)) ≡ k = rw m (length-take-le k (drop n d) (omega (arith, length-drop n d))) in
+    let l : length ys ≡ n + k - n = c.fill.ensures.len ∙ g ∙ sym m in
+    let v : ys ≡ replicate k b = c.fill.ensures.after (λ y e. e) ∙ ap (λ (i : ℕ). replicate i b) g in
+    last_end d n times c.if-n-eq0.false c.if-times-eq0.false h
+    (filled d ys n (n + k - n) (sym l) (omega arith) ∙ ap (λ (y : List ℕ). splice d 0 (take n d ++ y)) v)

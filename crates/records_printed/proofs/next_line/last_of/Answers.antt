@@ -1,9 +1,0 @@
-use Rattle.records_printed.proofs.next_line.last_of.Goals as goal
-
-pub returns-in-Count : goal.returns-in-Count
-returns-in-Count c =
-    rw c.in-Count.is
-
-pub returns-in-Refused : goal.returns-in-Refused
-returns-in-Refused c =
-    rw c.in-Refused.is

@@ -1,6 +1,0 @@
-use Rattle.answer_c.proofs.Codes.{by_code}
-use Rattle.sedna_c.proofs.kdr_write_statement.Goals as goal
-
-pub returns : goal.returns
-returns c =
-    by_code c.write_statement.ensures c.counted_code.ensures

@@ -1,6 +1,0 @@
-use Rattle.answer_c.proofs.Codes.{by_code}
-use Rattle.sedna_c.proofs.kdr_write_text.Goals as goal
-
-pub returns : goal.returns
-returns c =
-    by_code c.write_text.ensures c.counted_code.ensures
