@@ -1,6 +1,5 @@
 -- The numbers by which exported calls answer.
-use Rattle.std.specs.Prelude.{Result, Ok, Err}
-use Rattle.std.specs.Prelude.{List, ℕ, ◌+◌}
+use Rattle.std.specs.Prelude.{List, ℕ, ◌+◌, Result, Ok, Err}
 use Rattle.wire.specs.{Call.output_after, Call.Gives, declared.Refusal.Refusal, Refusals.number_of}
 
 -- a refusal among counts: its number on top of 2^63, above every count, since no slice is so long

@@ -122,11 +122,13 @@ fn cutting<W: Write>(
     words: &[u8],
 ) -> io::Result<()> {
     let mut buffer = [0u8; MOST];
-    let length = number(front(words, b' '), 32769);
-    let room = number(behind(words, b' '), 32769);
-    if MOST < length || MOST < room {
+    let (Some(length), Some(room)) = (number(front(words, b' ')), number(behind(words, b' ')))
+    else {
         return to.write_all(b" ?");
-    }
+    };
+    let Some(lent) = buffer.get_mut(..room) else {
+        return to.write_all(b" ?");
+    };
     let text = first(pattern, length);
     to.write_all(b": parts")?;
     let n = match count(cut, length) {
@@ -139,7 +141,7 @@ fn cutting<W: Write>(
             0
         }
     };
-    parts(to, open, &mut buffer[0..room], cut, text, n)
+    parts(to, open, lent, cut, text, n)
 }
 
 // The words are TYPE URL LENGTH ROOM.
@@ -156,7 +158,8 @@ fn typed<W: Write>(
     match front(url, b' ') {
         [b'-'] => cutting(to, open, Cut::Typed { class, kind }, pattern, rest),
         word => {
-            let url = number(word, 32769);
+            // One that is too long is cut all the same, and refused.
+            let url = number(word).unwrap_or(MOST + 1);
             cutting(to, open, Cut::WithUrl { class, kind, url }, pattern, rest)
         }
     }

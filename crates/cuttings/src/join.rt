@@ -6,6 +6,7 @@ use sedna::Shape;
 use sedna_read::Places;
 use std::io::{self, Write};
 use text_lines::cut::{Parts, behind, front};
+use text_lines::parse::decimal;
 use wire::Place;
 
 // What a word opens.
@@ -64,15 +65,18 @@ fn take<W: Write>(
 ) -> io::Result<Assembly> {
     to.write_all(b"; ")?;
     to.write_all(word)?;
-    let instruction = number(front(word, b':'), 32769);
-    if MOST < instruction {
-        return opened(to, word);
-    }
+    let instruction = match decimal(front(word, b':')) {
+        Some(n) if n as usize <= MOST => n,
+        _ => return opened(to, word),
+    };
     let rest = behind(word, b':');
     let start = a.held;
-    let len = number(front(rest, b':'), 0);
-    let places = places(instruction as u32, Place { start, len }, behind(rest, b':'));
-    join_said(to, a, buffer, instruction as u32, places, pattern, pattern)
+    let len = match front(rest, b':') {
+        [] => 0,
+        digits => number(digits).unwrap_or(MOST + 1),
+    };
+    let places = places(instruction, Place { start, len }, behind(rest, b':'));
+    join_said(to, a, buffer, instruction, places, pattern, pattern)
 }
 
 // The words are OPENING ROOM M M ..
@@ -81,16 +85,17 @@ pub fn answered<W: Write>(to: &mut W, pattern: &[u8], words: &[u8]) -> io::Resul
     let mut buffer = [0u8; MOST];
     let opening = front(words, b' ');
     let rest = behind(words, b' ');
-    let room = number(front(rest, b' '), 32769);
     to.write_all(b"join ")?;
     to.write_all(opening)?;
     let mut a = opened(to, opening)?;
     to.write_all(b" ")?;
     to.write_all(front(rest, b' '))?;
-    if MOST < room {
+    let Some(room) = number(front(rest, b' ')) else {
         return to.write_all(b" ?");
-    }
-    let lent = &mut buffer[0..room];
+    };
+    let Some(lent) = buffer.get_mut(..room) else {
+        return to.write_all(b" ?");
+    };
     for word in Parts::of(behind(rest, b' '), b' ') {
         a = take(to, a, lent, pattern, word)?;
     }

@@ -43,20 +43,18 @@ pub fn answer<W: Write>(
     }
 }
 
-// The number that digits spell, up to 32,768; 32,769 where they spell more, or none.
-pub fn number(word: &[u8], missing: usize) -> usize {
+// The number that digits spell, up to 32,768.
+pub fn number(word: &[u8]) -> Option<usize> {
+    let n = text_lines::parse::decimal(word)? as usize;
+    if n <= MOST { Some(n) } else { None }
+}
+
+// A byte; 255 for more than a byte, or what is no number.
+pub fn value(word: &[u8], missing: u8) -> u8 {
     if word.is_empty() {
         return missing;
     }
-    match text_lines::parse::decimal(word) {
-        Some(n) => (n as usize).min(MOST + 1),
-        None => MOST + 1,
-    }
-}
-
-// A byte; 255 for more than a byte, or none.
-pub fn value(word: &[u8], missing: u8) -> u8 {
-    number(word, missing as usize).min(255) as u8
+    text_lines::parse::decimal_byte(word).unwrap_or(255)
 }
 
 // Each byte tells its place from those one part before it and behind it, and none is 0.

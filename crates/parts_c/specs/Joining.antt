@@ -1,8 +1,6 @@
 -- Joining for programs in C and Rust: the caller keeps the assembly in the first seven numbers of what it lends.
-use Rattle.std.specs.Prelude.{Result, Ok, Err}
-use Rattle.std.specs.Prelude.{Option, Some, None}
+use Rattle.std.specs.Prelude.{ℕ, Option, Some, None, Result, Ok, Err}
 use mathlib.Core.{Bool.Bool, List.List, List.[], List.◌∷◌, List.◌++◌, Path.◌≡◌}
-use Rattle.std.specs.Prelude.{ℕ}
 use lib.{Dec.eqb, Dec.ltb, ListN.length, ListN.get_or, ListN.drop}
 use Rattle.wire.specs.{Bytes.if, declared.Refusal.Refusal, declared.Refusal.TheVariants.ValueNotAllowed, declared.Refusal.TheVariants.NoRoom}
 use Rattle.answer_c.specs.Codes.{refusal_code}

@@ -27,6 +27,7 @@ fn open_in(what: u64) -> Option<Open>
     }
 }
 
+// The number that C reads for it.
 fn open_number(what: Open) -> u64
     ensures { result ≡ open_number what }
 {

@@ -1,8 +1,7 @@
 -- How many parts a cut has, and what writing part k of it answers and leaves: "When writing or cutting: 2, 8, 11, 14, 10."
-use Rattle.std.specs.Prelude.{Result, Ok, Err}
+use Rattle.std.specs.Prelude.{ℕ, zero, suc, ◌+◌, ◌-◌, ◌/◌, Result, Ok, Err}
 use Rattle.wire.specs.declared.Refusal.{Refusal}
 use mathlib.Core.{Bool.Bool, Bool.true, List.List, List.[], Option.Option, Option.none, Option.some}
-use Rattle.std.specs.Prelude.{ℕ, zero, suc, ◌+◌, ◌-◌, ◌/◌}
 use lib.{Dec.leb, ListN.length, ListN.get_elem?}
 use Rattle.wire.specs.{Bytes.if, Call.Writes}
 use Rattle.wire.specs.declared.Refusal.TheVariants.{ValueNotAllowed, NoEncoding, NoSuchPart}

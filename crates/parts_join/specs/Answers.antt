@@ -1,7 +1,6 @@
 -- Document 01's number and values of each answer.
-use Rattle.std.specs.Prelude.{Result, Ok, Err}
+use Rattle.std.specs.Prelude.{List, [], ◌∷◌, ℕ, Result, Ok, Err}
 use Rattle.wire.specs.declared.Refusal.{Refusal}
-use Rattle.std.specs.Prelude.{List, [], ◌∷◌, ℕ}
 use Rattle.wire.specs.Refusals.{number_of}
 use Rattle.parts_join.specs.declared.Answer.{Answer}
 

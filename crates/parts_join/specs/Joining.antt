@@ -1,7 +1,6 @@
 -- Document 01, "When joining: 8, 9, 12": what a call answers, the record that it returns, and what it leaves in the lent buffer.
-use Rattle.std.specs.Prelude.{Result, Ok, Err}
+use Rattle.std.specs.Prelude.{ℕ, ◌+◌, Result, Ok, Err}
 use mathlib.Core.{Bool.Bool, Bool.true, Bool.false, List.List, Path.◌≡◌}
-use Rattle.std.specs.Prelude.{ℕ, ◌+◌}
 use lib.{Dec.ltb, ListN.length, ListN.take}
 use Rattle.wire.specs.{Bytes.if, Bytes.splice, Call.Gives, declared.Refusal.Refusal}
 use Rattle.sedna.specs.{Allowed.allowed, Message.Message}

@@ -1,7 +1,6 @@
 -- Document 01, "When writing or cutting: 2, 8, 11, 14, 10": what writing part k of a cut must answer and leave, by the cut and the encodings.
-use Rattle.std.specs.Prelude.{Result, Ok, Err}
+use Rattle.std.specs.Prelude.{ℕ, ◌≤◌, ◌<◌, length, drop, Result, Ok, Err}
 use mathlib.Core.{List.List, List.◌++◌, Option.some, Path.◌≡◌}
-use Rattle.std.specs.Prelude.{ℕ, ◌≤◌, ◌<◌, length, drop}
 use Rattle.std.proofs.Math.ListN.{get_elem?}
 use Rattle.wire.specs.{declared.Refusal.Refusal, Refusals.number_of}
 use Rattle.sedna.specs.{Encode.encode, Message.Message}

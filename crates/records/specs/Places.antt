@@ -1,7 +1,6 @@
 -- Where a record stands in a transcript.
-use Rattle.std.specs.Prelude.{Option, Some, None}
+use Rattle.std.specs.Prelude.{ℕ, ◌+◌, ◌≤◌, length, take, drop, Option, Some, None}
 use mathlib.Core.{List.List, Path.◌≡◌}
-use Rattle.std.specs.Prelude.{ℕ, ◌+◌, ◌≤◌, length, take, drop}
 use Rattle.records.specs.{declared.Head.Head, declared.Next.Next, Record.head_of, Record.Front}
 
 -- what stands at `at`: the payload of a record, behind six bytes

@@ -1,8 +1,7 @@
 -- Document 01, "The transcript program": "Standard input holds records: payload length (four bytes, little-endian, at most 10,248), kind (two bytes,
 -- little-endian, 1 client, 2 server), payload, one message."
-use Rattle.std.specs.Prelude.{Option, Some, None}
+use Rattle.std.specs.Prelude.{ℕ, zero, suc, ◌+◌, ◌*◌, Option, Some, None}
 use mathlib.Core.{Bool.Bool, Bool.true, Bool.false, List.List, List.[], List.◌∷◌}
-use Rattle.std.specs.Prelude.{ℕ, zero, suc, ◌+◌, ◌*◌}
 use lib.{Dec.ltb, Dec.eqb, ListN.length, ListN.take, ListN.drop}
 use Rattle.wire.specs.Bytes.{if}
 use Rattle.sedna.specs.declared.Side.{Side}

@@ -1,7 +1,6 @@
 -- Document 01, "The transcript program": what a record is answered, "0 or the refusal; payload bytes after the message count as 7".
-use Rattle.std.specs.Prelude.{Result, Ok, Err}
+use Rattle.std.specs.Prelude.{ℕ, Result, Ok, Err}
 use Rattle.wire.specs.declared.Refusal.{Refusal}
-use Rattle.std.specs.Prelude.{ℕ}
 use lib.{Dec.ltb, ListN.length}
 use Rattle.wire.specs.{Bytes.if, Refusals.number_of, declared.Refusal.TheVariants.BytesLeftOver}
 use Rattle.sedna_read.specs.{declared.Reading.Reading, Reading.Answer, Reading.reading}

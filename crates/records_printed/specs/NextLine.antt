@@ -1,8 +1,7 @@
 -- Document 01, "The transcript program", record by record: what is printed for what was read of one record, and how the program goes on.
-use Rattle.std.specs.Prelude.{Result}
+use Rattle.std.specs.Prelude.{ℕ, ◌+◌, Result}
 use Rattle.wire.specs.declared.Refusal.{Refusal}
 use mathlib.Core.{Bool.true, Bool.false, List.List, List.[], List.◌++◌, Path.◌≡◌}
-use Rattle.std.specs.Prelude.{ℕ, ◌+◌}
 use Rattle.session.specs.declared.Session.{Session}
 use Rattle.records.specs.{Places.reads, Places.unread, Record.Front, Record.front, Record.records}
 use Rattle.records_printed.specs.{declared.CountedLine.CountedLine, Answer.answered, Line.line_in, Output.record_line, Output.end_line}

@@ -1,8 +1,7 @@
 -- What the functions that write into lent output answer and leave there.
-use Rattle.std.specs.Prelude.{Result, Ok, Err}
+use Rattle.std.specs.Prelude.{ℕ, ◌≤◌, length, Result, Ok, Err}
 use Rattle.wire.specs.declared.Refusal.{Refusal}
 use mathlib.Core.{List.List, Path.◌≡◌}
-use Rattle.std.specs.Prelude.{ℕ, ◌≤◌, length}
 use Rattle.wire.specs.{Call.in_room, Call.put_at, Call.Gives}
 use Rattle.session.specs.declared.Session.{Session}
 use Rattle.records_printed.specs.declared.CountedLine.{CountedLine}

@@ -1,7 +1,6 @@
 -- Document 01: "A refusal returns its number alone, with 0 bytes read or written; buffers and session record stay unchanged."
-use Rattle.std.specs.Prelude.{Result, Err}
+use Rattle.std.specs.Prelude.{ℕ, length, Result, Err}
 use mathlib.Core.{List.List, Path.◌≡◌}
-use Rattle.std.specs.Prelude.{ℕ, length}
 use Rattle.wire.specs.{Call.in_room, Call.put_at, declared.Refusal.Refusal}
 use Rattle.session.specs.declared.Session.{Session}
 use Rattle.records.specs.Record.{Front}

@@ -1,8 +1,6 @@
 -- The library's answers as numbers, for programs in C and Rust.
-use Rattle.std.specs.Prelude.{Result, Ok, Err}
+use Rattle.std.specs.Prelude.{List, [], ◌∷◌, ◌++◌, ℕ, Option, Some, None, Result, Ok, Err}
 use Rattle.wire.specs.declared.Refusal.{Refusal}
-use Rattle.std.specs.Prelude.{Option, Some, None}
-use Rattle.std.specs.Prelude.{List, [], ◌∷◌, ◌++◌, ℕ}
 use lib.{Dec.eqb, Dec.ltb, ListN.length, ListN.drop}
 use Rattle.wire.specs.{Bytes.if, Call.Gives, declared.Place.Place, declared.Refusal.TheVariants.ValueNotAllowed, declared.Refusal.TheVariants.NoRoom}
 use Rattle.answer_c.specs.Codes.{refusal_code, WritesByCode}

@@ -1,9 +1,7 @@
 -- The session for programs in C and Rust: the caller keeps the record in the first two bytes of what it lends.
-use Rattle.std.specs.Prelude.{Result, Ok, Err}
+use Rattle.std.specs.Prelude.{ℕ, Option, Some, None, Result, Ok, Err}
 use Rattle.wire.specs.declared.Refusal.{Refusal}
-use Rattle.std.specs.Prelude.{Option, Some, None}
 use mathlib.Core.{List.List, List.◌∷◌, Path.◌≡◌}
-use Rattle.std.specs.Prelude.{ℕ}
 use lib.{Dec.ltb, ListN.length, ListN.get_or, ListN.drop}
 use Rattle.wire.specs.{Bytes.if, declared.Refusal.TheVariants.ValueNotAllowed, declared.Refusal.TheVariants.NoRoom}
 use Rattle.answer_c.specs.Codes.{refusal_code}

@@ -1,8 +1,7 @@
 -- Instants as they are read: the fields by their places, 15 over the whole text, then 16.
-use Rattle.std.specs.Prelude.{Option, Some, None, Result, Ok, Err}
+use Rattle.std.specs.Prelude.{ℕ, ◌+◌, ◌-◌, ◌*◌, ◌^◌, Option, Some, None, Result, Ok, Err}
 use Rattle.wire.specs.declared.Refusal.{Refusal}
 use mathlib.Core.{Bool.Bool, Bool.true, Bool.false, List.List}
-use Rattle.std.specs.Prelude.{ℕ, ◌+◌, ◌-◌, ◌*◌, ◌^◌}
 use lib.{Dec.eqb, Dec.leb, Dec.ltb, IntN.ℤ, IntN.pos, IntN.◌-ℤ◌, ListN.length, ListN.get_or}
 use Rattle.wire.specs.{Bytes.if, declared.Refusal.TheVariants.NotOfForm, declared.Refusal.TheVariants.OutOfRange}
 use Rattle.sedna_instant.specs.{declared.fields.Clock.Clock, declared.fields.Fraction.Fraction, declared.fields.Year.Year}

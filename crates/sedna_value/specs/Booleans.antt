@@ -1,8 +1,7 @@
 -- Booleans as they are read.
-use Rattle.std.specs.Prelude.{Result, Ok, Err}
+use Rattle.std.specs.Prelude.{ℕ, Result, Ok, Err}
 use Rattle.wire.specs.declared.Refusal.{Refusal}
 use mathlib.Core.{Bool.Bool, Bool.true, Bool.false, List.List}
-use Rattle.std.specs.Prelude.{ℕ}
 use lib.{Dec.eqb, ListN.length, ListN.get_or}
 use Rattle.wire.specs.{Bytes.if, declared.Refusal.TheVariants.NotOfForm}
 use Rattle.sedna_value.specs.{declared.Value.Value, declared.Value.TheVariants.Boolean}

@@ -1,8 +1,7 @@
 -- Doubles as they are read.
-use Rattle.std.specs.Prelude.{Result, Ok, Err}
+use Rattle.std.specs.Prelude.{ℕ, ◌+◌, ◌-◌, ◌*◌, ◌^◌, Result, Ok, Err}
 use Rattle.wire.specs.declared.Refusal.{Refusal}
 use mathlib.Core.{Bool.Bool, Bool.true, Bool.false, List.List}
-use Rattle.std.specs.Prelude.{ℕ, ◌+◌, ◌-◌, ◌*◌, ◌^◌}
 use lib.{Dec.eqb, Dec.ltb, Ieee.Float, Ieee.binary64, Ieee.of_int, Ieee.div, Ieee.neg, IntN.pos, ListN.length, ListN.get_or}
 use Rattle.wire.specs.{Bytes.if, declared.Refusal.TheVariants.NotOfForm, declared.Refusal.TheVariants.OutOfRange}
 use Rattle.sedna_value.specs.{declared.Value.Value, declared.Value.TheVariants.Double, declared.doubles.Decimal.Decimal}

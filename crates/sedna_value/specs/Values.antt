@@ -1,8 +1,7 @@
 -- Document 02, request 1: "For a 4.0 item of class 1 return one typed answer", by its type.
-use Rattle.std.specs.Prelude.{Result, Ok, Err}
+use Rattle.std.specs.Prelude.{ℕ, eqb, Result, Ok, Err}
 use Rattle.wire.specs.declared.Refusal.{Refusal}
 use mathlib.Core.{Bool.Bool, Bool.true, List.List}
-use Rattle.std.specs.Prelude.{ℕ, eqb}
 use Rattle.wire.specs.{Bytes.if, Bytes.between, declared.Refusal.TheVariants.NotOfForm}
 use Rattle.sedna_value.specs.{declared.Value.Value, declared.Value.TheVariants.At, Booleans.boolean_of, Doubles.double_of, Wholes.whole_of}
 use Rattle.sedna_instant.specs.{declared.Instant.Instant, DateTimes.instant_of}

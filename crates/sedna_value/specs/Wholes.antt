@@ -1,9 +1,7 @@
 -- Whole numbers as they are read.
-use Rattle.std.specs.Prelude.{Option, Some, None}
-use Rattle.std.specs.Prelude.{Result, Ok, Err}
+use Rattle.std.specs.Prelude.{ℕ, Result, Ok, Err, Option, Some, None}
 use Rattle.wire.specs.declared.Refusal.{Refusal}
 use mathlib.Core.{Bool.Bool, List.List}
-use Rattle.std.specs.Prelude.{ℕ}
 use lib.{Dec.eqb, Dec.leb, Dec.ltb, IntN.ℤ, IntN.pos, IntN.negsuc, Signed.lt_z, ListN.length, ListN.get_or}
 use Rattle.wire.specs.{Bytes.if, Bytes.between, declared.Refusal.TheVariants.NotOfForm, declared.Refusal.TheVariants.OutOfRange}
 use Rattle.sedna_value.specs.{declared.Value.Value, declared.Value.TheVariants.Whole}

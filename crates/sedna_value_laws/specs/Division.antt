@@ -1,7 +1,6 @@
 -- Document 02, request 1: "the one rounded division of the digits by the power of ten, both exact, negated for a minus sign (so -0 is negative zero)".
-use Rattle.std.specs.Prelude.{Ok}
+use Rattle.std.specs.Prelude.{ℕ, ◌^◌, ◌≤◌, ◌<◌, Ok}
 use mathlib.Core.{Bool.Bool, Bool.true, Bool.false, Path.◌≡◌}
-use Rattle.std.specs.Prelude.{ℕ, ◌^◌, ◌≤◌, ◌<◌}
 use lib.{Ieee.Float, Ieee.binary64, Ieee.fin, Ieee.of_int, Ieee.div, Ieee.round, Ieee.is_nan, Ieee.Exact.HasValue, IntN.pos, ListN.length}
 use Rattle.wire.specs.Every.{Every}
 use Rattle.sedna_digits.specs.Numbers.{number}

@@ -1,7 +1,6 @@
 -- Document 02, request 1: the value of a text, and each of its two refusals, exactly when.
-use Rattle.std.specs.Prelude.{Ok, Err}
+use Rattle.std.specs.Prelude.{ℕ, Ok, Err}
 use mathlib.Core.{List.List, Logic.◌↔◌, Logic.◌⊎◌, Option.some, Path.◌≡◌}
-use Rattle.std.specs.Prelude.{ℕ}
 use Rattle.wire.specs.{declared.Refusal.Refusal, Refusals.number_of}
 use Rattle.sedna_value.specs.{declared.Value.Value, Values.value_of}
 use Rattle.sedna_value_laws.specs.Texts.{Kind, Text, kind_of, written, Formed, Means, Excluded}

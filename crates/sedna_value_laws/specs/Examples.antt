@@ -1,8 +1,7 @@
 -- Texts and their answers, to be checked at sight: the places of document 02, request 1, that are easily got wrong.
-use Rattle.std.specs.Prelude.{Result, Ok, Err}
+use Rattle.std.specs.Prelude.{ℕ, Result, Ok, Err}
 use Rattle.wire.specs.declared.Refusal.{Refusal}
 use mathlib.Core.{Bool.Bool, Bool.true, Bool.false, List.List, List.[], List.◌∷◌, List.map, Path.◌≡◌}
-use Rattle.std.specs.Prelude.{ℕ}
 use Prim.Native.String.{String}
 use lib.{Ieee.Float, Ieee.fin, IntN.ℤ, IntN.pos, IntN.negsuc, IntN.neg_ℤ}
 use Rattle.wire.specs.Refusals.{number_of}

@@ -1,7 +1,6 @@
 -- What the old program got wrong: "An expiry of 09:00:00+02:00 came as a dateTime, was kept as text, and was compared with 08:30:00Z as text."
-use Rattle.std.specs.Prelude.{Ok}
+use Rattle.std.specs.Prelude.{ℕ, ◌≤◌, pos, ◌+ℤ◌, Ok}
 use mathlib.Core.{Bool.false, List.List, List.[], Path.◌≡◌}
-use Rattle.std.specs.Prelude.{ℕ, ◌≤◌, pos, ◌+ℤ◌}
 use Rattle.sedna_digits.specs.Numbers.{number}
 use Rattle.std.specs.declared.cmp.Ordering.TheVariants.{Less}
 use Rattle.sedna_instant.specs.{declared.Instant.Instant, Orders.ordered}

@@ -1,7 +1,6 @@
 -- Document 02, request 1: "Instants are ordered by these alone."
-use Rattle.std.specs.Prelude.{Ok}
+use Rattle.std.specs.Prelude.{ℕ, ◌<◌, Ok}
 use mathlib.Core.{List.List, Logic.◌↔◌, Logic.◌⊎◌, Path.◌≡◌}
-use Rattle.std.specs.Prelude.{ℕ, ◌<◌}
 use lib.{IntN.ℤ, IntN.pos, IntN.◌+ℤ◌, IntN.◌*ℤ◌, Signed.◌<ℤ◌}
 use Rattle.sedna_instant.specs.declared.Instant.{Instant}
 use Rattle.std.specs.declared.cmp.Ordering.TheVariants.{Less, Equal, Greater}

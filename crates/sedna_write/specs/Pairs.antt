@@ -1,8 +1,7 @@
 -- The options of a SetOptions message, given as three lists: ids, how many bytes each value has, and the values one behind the other.
-use Rattle.std.specs.Prelude.{Result}
+use Rattle.std.specs.Prelude.{ℕ, ◌+◌, Result}
 use Rattle.wire.specs.declared.Refusal.{Refusal}
 use mathlib.Core.{List.List, List.[], List.◌∷◌, Bool.Bool, Bool.false}
-use Rattle.std.specs.Prelude.{ℕ, ◌+◌}
 use lib.{Dec.eqb, ListN.length, ListN.take, ListN.drop}
 use Rattle.wire.specs.{Bytes.if, Call.Writes}
 use Rattle.sedna.specs.{declared.Shape.TheVariants.Options, Encode.pairs_bytes, Encode.encode, Message.Pair, Message.Body, Message.Message, Message.message}

@@ -1,8 +1,7 @@
 -- Document 01, "When writing or cutting: 2, 8, 11, 14, 10": what writing a message answers, and what it leaves in the lent output.
-use Rattle.std.specs.Prelude.{Result, Ok, Err}
+use Rattle.std.specs.Prelude.{ℕ, ◌+◌, Result, Ok, Err}
 use Rattle.wire.specs.declared.Refusal.{Refusal}
 use mathlib.Core.{List.List, Bool.Bool}
-use Rattle.std.specs.Prelude.{ℕ, ◌+◌}
 use lib.{Dec.ltb, ListN.length}
 use Rattle.wire.specs.{Bytes.if, Call.in_room, Call.Writes}
 use Rattle.wire.specs.declared.Refusal.TheVariants.{ValueNotAllowed, NoEncoding}

@@ -1,7 +1,6 @@
 -- What a step makes of an answer, by the places of the message's fields.
-use Rattle.std.specs.Prelude.{Result, Ok, Err}
+use Rattle.std.specs.Prelude.{ℕ, eqb, Result, Ok, Err}
 use Rattle.wire.specs.declared.Refusal.{Refusal}
-use Rattle.std.specs.Prelude.{ℕ, eqb}
 use Rattle.wire.specs.Bytes.{if}
 use Rattle.sedna.specs.Names.{SessionParameters}
 use Rattle.sedna_read.specs.{declared.Places.Places, declared.Reading.Reading}

@@ -1,5 +1,5 @@
 // The machine as a look-up in the one table of moves. It answers as `machine::next` does, from whatever
-// phase and in whatever version.
+// phase and in whatever version. A refused move is `phase::REFUSED`, no None: said there.
 ghost use Rattle.std.specs.Prelude.{◌≡◌, ◌==◌, ◌-◌, position};
 ghost use Rattle.sedna.specs.Table.{rows};
 ghost use Rattle.session.specs.Machine.{next as next_of};

@@ -1,8 +1,7 @@
 -- The step over a lent record: what it answers, and what it leaves in the record. Both are what the step by value returns.
-use Rattle.std.specs.Prelude.{Result}
+use Rattle.std.specs.Prelude.{ℕ, Result}
 use Rattle.wire.specs.declared.Refusal.{Refusal}
 use mathlib.Core.{List.List, Path.◌≡◌}
-use Rattle.std.specs.Prelude.{ℕ}
 use Rattle.sedna.specs.declared.Side.{Side}
 use Rattle.sedna_read.specs.declared.Reading.{Reading}
 use Rattle.session.specs.{declared.Session.Session, Step.stepped}

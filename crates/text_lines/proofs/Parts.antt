@@ -1,5 +1,5 @@
 -- What stands before and behind a byte, found index by index.
-use Rattle.std.specs.Prelude.{Some, None}
+use Rattle.std.specs.Prelude.{cond, Some, None}
 use mathlib.Core.Path.{◌≡◌, refl, sym, ap, subst, ◌∙◌}
 use mathlib.Core.List.{List, [], ◌∷◌}
 use mathlib.Core.Bool.{Bool, true, false, not}
@@ -11,7 +11,6 @@ use lib.ListN.{length, take, drop, get_or, length-drop, drop_of_length-le}
 use lib.Seq.{drop-cons, take_all}
 use borrow.Author.Tests.{ltb-false}
 use Rattle.std.specs.List.{position, position_or_len}
-use Rattle.std.specs.Prelude.{cond}
 use Rattle.wire.specs.Bytes.{if}
 use Rattle.text_lines.specs.Cuts.{before_first, behind_first}
 

@@ -1,7 +1,6 @@
 -- Numbers that text spells.
-use Rattle.std.specs.Prelude.{Option, Some, None}
+use Rattle.std.specs.Prelude.{ℕ, ◌+◌, ◌*◌, ◌-◌, Option, Some, None}
 use mathlib.Core.{Bool.Bool, Bool.true, Bool.false, List.List, List.[], List.◌∷◌}
-use Rattle.std.specs.Prelude.{ℕ, ◌+◌, ◌*◌, ◌-◌}
 use lib.{Dec.eqb, Dec.ltb, ListN.length}
 use Rattle.wire.specs.Bytes.{if, between}
 

@@ -1,7 +1,6 @@
 -- Bytes that text spells, put behind those that stand at the front of an output: `None` where the text spells none, or there is no room.
-use Rattle.std.specs.Prelude.{Option, Some, None}
+use Rattle.std.specs.Prelude.{ℕ, ◌+◌, ◌*◌, ◌-◌, ◌≤◌, Option, Some, None}
 use mathlib.Core.{Path.◌≡◌, List.List, List.[], List.◌∷◌, List.◌++◌}
-use Rattle.std.specs.Prelude.{ℕ, ◌+◌, ◌*◌, ◌-◌, ◌≤◌}
 use lib.{Dec.eqb, Dec.ltb, ListN.length, ListN.take, ListN.get_or, ListN.replicate}
 use Rattle.wire.specs.Bytes.{if, splice}
 use Rattle.text_lines.specs.{Cuts.before_first, Cuts.behind_first, Cuts.words_of}

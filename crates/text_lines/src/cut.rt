@@ -1,7 +1,7 @@
 // Parts of text and of bytes, and comparing them.
 ghost use Rattle.std.specs.Prelude.{◌≡◌, ◌==◌, ◌≤◌, [], length, position, MatchOption};
 ghost use Rattle.std.specs.Iterator.{at_most};
-ghost use Rattle.text_lines.specs.Cuts.{TakesPart, before_first, behind_first, without_space, same_bytes, words_of, ahead_of, behind_words};
+ghost use Rattle.text_lines.specs.Cuts.{TakesPart, before_first, behind_first, without_space, words_of, ahead_of, behind_words};
 
 // The index of the first b.
 fn find(s: &[u8], b: u8) -> Option<usize>
@@ -41,12 +41,6 @@ pub fn trimmed(s: &[u8]) -> &[u8]
     }
 }
 
-pub fn same(a: &[u8], b: &[u8]) -> bool
-    ensures { result ≡ same_bytes a.now b.now }
-{
-    a == b
-}
-
 // The parts of a text, each ended by a byte or by the end of the text; an empty text has none.
 #[derive(Drop)]
 pub struct Parts<'a> {
@@ -80,13 +74,14 @@ impl<'a> Parts<'a> {
     }
 }
 
-// Which of some words a word is, counted from 0; their count where it is none of them.
+// Which of some words a word is, counted from 0; their count, not None, where it is none of them:
+// `ahead_of` says so, and a `match` on the place has an arm for it.
 pub fn position(words: &[u8], word: &[u8]) -> usize
     ensures { result ≡ ahead_of word.now (words_of words.now) }
 {
     let mut k = 0;
     for one in Parts::of(words, b' ') {
-        if same(one, word) {
+        if one == word {
             return k;
         }
         k += 1;

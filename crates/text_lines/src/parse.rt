@@ -8,7 +8,7 @@ use crate::cut::{Parts, behind, front};
 // What a field or a message takes at most: a body of 10,240 bytes, its head and something to spare.
 pub const SPACE: usize = 12000;
 
-// A digit's value; 16 for any other byte.
+// A digit's value; 16, not None, for any other byte: `digit_of` says so, and each test is one `<`.
 #[tactic(auto, unfolding(crate::specs::Numbers::digit_of))]
 fn digit(b: u8) -> u8
     ensures { (result ≡ digit_of b) × (result ≤ 16) }

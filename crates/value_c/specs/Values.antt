@@ -1,7 +1,6 @@
 -- Typed values for programs in C and Rust: what a value is, two whole numbers and a double.
-use Rattle.std.specs.Prelude.{Result, Ok, Err}
+use Rattle.std.specs.Prelude.{ℕ, Result, Ok, Err}
 use mathlib.Core.{Bool.Bool, Bool.false, List.List, List.◌∷◌, Path.◌≡◌}
-use Rattle.std.specs.Prelude.{ℕ}
 use lib.{Dec.ltb, Ieee.Float, Ieee.fin, IntN.ℤ, IntN.pos, ListN.length, ListN.drop}
 use Rattle.wire.specs.{Bytes.if, declared.Refusal.Refusal}
 use Rattle.answer_c.specs.Codes.{refusal_code}

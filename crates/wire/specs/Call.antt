@@ -1,9 +1,8 @@
 -- What a call that writes into lent output answers, and what it leaves there: all of its bytes or nothing. Document 01: "A refusal returns its number
 -- alone, with 0 bytes read or written; buffers and session record stay unchanged."
-use Rattle.std.specs.Prelude.{Result, Ok, Err}
+use Rattle.std.specs.Prelude.{ℕ, ◌+◌, Result, Ok, Err}
 use Rattle.wire.specs.declared.Refusal.{Refusal}
 use mathlib.Core.{List.List, Path.◌≡◌}
-use Rattle.std.specs.Prelude.{ℕ, ◌+◌}
 use lib.{Dec.ltb, ListN.length}
 use Rattle.wire.specs.{declared.Refusal.TheVariants.NoRoom, Bytes.if, Bytes.splice}
 

@@ -1,9 +1,7 @@
 -- What the one function behind `kdr_read` and `kdr_step` goes by, and promises.
-use Rattle.std.specs.Prelude.{Result, Err}
+use Rattle.std.specs.Prelude.{ℕ, Option, Some, None, Result, Err}
 use Rattle.wire.specs.declared.Refusal.{Refusal}
-use Rattle.std.specs.Prelude.{Option, Some, None}
 use mathlib.Core.{Bool.Bool, Bool.not, List.List, Path.◌≡◌}
-use Rattle.std.specs.Prelude.{ℕ}
 use lib.{Dec.eqb, ListN.length}
 use Rattle.wire.specs.{Bytes.if, Bytes.int_at, declared.Refusal.TheVariants.ValueNotAllowed}
 use Rattle.sedna.specs.declared.Side.{Side}

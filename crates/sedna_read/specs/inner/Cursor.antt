@@ -1,7 +1,6 @@
 -- What the methods that read the fields of a body off a cursor answer.
-use Rattle.std.specs.Prelude.{Result, Ok, Err, Option}
+use Rattle.std.specs.Prelude.{ℕ, ◌+◌, ◌-◌, Result, Ok, Err, Option}
 use mathlib.Core.{Bool.Bool, Bool.true, Bool.false, List.List, List.[], Path.◌≡◌}
-use Rattle.std.specs.Prelude.{ℕ, ◌+◌, ◌-◌}
 use lib.{Dec.leb, ListN.length, ListN.take, ListN.drop}
 use Rattle.wire.specs.{declared.Place.Place, declared.Refusal.Refusal, declared.Refusal.TheVariants.ValueNotAllowed}
 use Rattle.wire.specs.Fields.{Got, Field, ◌>>=◌, ◌>>◌, required}

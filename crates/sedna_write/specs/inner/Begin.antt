@@ -1,8 +1,7 @@
 -- What the functions that write a message's head, and its options behind it, promise and ask.
-use Rattle.std.specs.Prelude.{Result}
+use Rattle.std.specs.Prelude.{ℕ, ◌+◌, ◌≤◌, length, Result}
 use Rattle.wire.specs.declared.Refusal.{Refusal}
 use mathlib.Core.{Bool.Bool, List.List, List.◌++◌, Path.◌≡◌}
-use Rattle.std.specs.Prelude.{ℕ, ◌+◌, ◌≤◌, length}
 use Rattle.wire.specs.{Bytes.int, Call.output_after}
 use Rattle.sedna.specs.{declared.Shape.Shape, Encode.pairs_bytes}
 use Rattle.sedna_write.specs.{Pairs.sum, Pairs.pairs_of, Writing.judgement}

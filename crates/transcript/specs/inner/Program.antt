@@ -1,7 +1,6 @@
 -- What the transcript program's functions answer. What was read and what was written no contract can say.
-use Rattle.std.specs.Prelude.{Option, Some, None}
+use Rattle.std.specs.Prelude.{ℕ, ◌≤◌, length, take, Option, Some, None}
 use mathlib.Core.{List.List, Path.◌≡◌}
-use Rattle.std.specs.Prelude.{ℕ, ◌≤◌, length, take}
 use Rattle.session.specs.declared.Session.{Session}
 use Rattle.records_printed.specs.Answer.{answered}
 use Rattle.records.specs.{Record.head_of, Record.Front, Places.reach}
