@@ -82,12 +82,16 @@ fn fields<W: Write>(to: &mut W, bytes: &[u8], places: Places) -> io::Result<()> 
             part,
         } => {
             write!(to, "class {class}, type {kind}")?;
-            match url {
-                Some(place) => text(to, ", URL ", bytes, place)?,
-                None => to.write_all(b", no URL")?,
-            }
+            address(to, bytes, url)?;
             text(to, ", part ", bytes, part)
         }
+    }
+}
+
+fn address<W: Write>(to: &mut W, bytes: &[u8], url: Option<Place>) -> io::Result<()> {
+    match url {
+        Some(place) => text(to, ", URL ", bytes, place),
+        None => to.write_all(b", no URL"),
     }
 }
 
