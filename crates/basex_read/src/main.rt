@@ -11,6 +11,8 @@
 
 use std::io::{self, Read, Write};
 use text_lines::input::fill;
+use text_lines::output::Output;
+use text_lines::print::hex;
 
 fn line<W: Write>(
     to: &mut W,
@@ -19,7 +21,8 @@ fn line<W: Write>(
     bytes: &[u8],
     out: &mut [u8],
 ) -> io::Result<()> {
-    write!(to, "{number} {kind:02X}")?;
+    write!(to, "{number} ")?;
+    hex(to, &[kind])?;
     text_basex::show(to, kind, bytes, out)?;
     to.write_all(b"\n")
 }
@@ -80,5 +83,10 @@ fn answer<R: Read, W: Write>(from: &mut R, to: &mut W) -> io::Result<()> {
 }
 
 fn main(rt: HostRuntime) -> io::Result<()> {
-    answer(&mut rt.stdin(), &mut io::writer(&rt))
+    answer(
+        &mut rt.stdin(),
+        &mut Output {
+            to: io::writer(&rt),
+        },
+    )
 }

@@ -17,6 +17,7 @@ use std::io::{self, Write};
 use text_lines::answers::{Answers, each_line};
 use text_lines::cut::{behind, front};
 use text_lines::input::asks;
+use text_lines::output::Output;
 
 // The major version that a word names.
 fn version_of(word: &[u8]) -> Option<u8> {
@@ -61,5 +62,11 @@ impl Answers for Conversations {
 }
 
 fn main(rt: HostRuntime) -> io::Result<()> {
-    each_line(&mut rt.reader(), &mut io::writer(&rt), &mut Conversations)
+    each_line(
+        &mut rt.reader(),
+        &mut Output {
+            to: io::writer(&rt),
+        },
+        &mut Conversations,
+    )
 }

@@ -63,7 +63,7 @@ fn joined<W: Write>(
         return Ok(a);
     };
     match sedna_read::read(side, bytes) {
-        Ok(reading) => join_said(to, a, buffer, instruction, reading.places, bytes, text),
+        Ok(reading) => Ok(join_said(to, a, buffer, instruction, reading.places, bytes, text)),
         Err(r) => {
             refusal(to, r)?;
             Ok(a)

@@ -76,7 +76,7 @@ fn take<W: Write>(
         digits => number(digits).unwrap_or(MOST + 1),
     };
     let places = places(instruction, Place { start, len }, behind(rest, b':'));
-    join_said(to, a, buffer, instruction, places, pattern, pattern)
+    Ok(join_said(to, a, buffer, instruction, places, pattern, pattern))
 }
 
 // The words are OPENING ROOM M M ..

@@ -25,24 +25,24 @@ use std::io::{self, Write};
 use text_lines::answers::{Answers, all_lines};
 use text_lines::cut::{behind, front};
 use text_lines::input::asks;
+use text_lines::output::Output;
 
 // The pattern is long enough for what a buffer holds and one more message, each of 32,769 bytes at most.
 #[derive(Drop)]
-struct Cuttings {
-    // An array: no heap, as in the library.
-    pattern: [u8; 65538],
+struct Cuttings<'a> {
+    pattern: &'a [u8],
 }
 
-impl Answers for Cuttings {
+impl Answers for Cuttings<'_> {
     fn answer<W: Write>(&mut self, to: &mut W, line: &[u8]) -> io::Result<()> {
         let kind = front(line, b' ');
         let words = behind(line, b' ');
         if kind == b"join".as_slice() {
-            join::answered(to, &self.pattern, words)?;
+            join::answered(to, self.pattern, words)?;
         } else {
             to.write_all(line)?;
             if asks(line) {
-                cut::answered(to, kind, &self.pattern, words)?;
+                cut::answered(to, kind, self.pattern, words)?;
             }
         }
         to.write_all(b"\n")
@@ -56,11 +56,14 @@ impl Answers for Cuttings {
 
 // The input is 65,536 bytes at most.
 fn main(rt: HostRuntime) -> io::Result<()> {
+    // An array: no heap, as in the library. Lent, so that it stands on the stack once.
     let mut pattern = [0u8; 65538];
     text::fill(&mut pattern);
     all_lines(
         &mut rt.reader(),
-        &mut io::writer(&rt),
-        &mut Cuttings { pattern },
+        &mut Output {
+            to: io::writer(&rt),
+        },
+        &mut Cuttings { pattern: &pattern },
     )
 }

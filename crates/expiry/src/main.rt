@@ -19,6 +19,7 @@ use std::io::{self, Write};
 use text_lines::answers::{Answers, each_line};
 use text_lines::cut::{behind, front};
 use text_lines::input::asks;
+use text_lines::output::Output;
 use text_lines::parse::{decimal, decimal_byte};
 use wire::{Refusal, first};
 
@@ -68,9 +69,10 @@ struct Expiry {
 
 impl Expiry {
     fn asked<W: Write>(&mut self, to: &mut W, line: &[u8]) -> io::Result<()> {
-        let mut text = [b'0'; MOST];
         match asked(line) {
             Some((kind, zeros, rest)) if wire::has_room(MOST, zeros, rest.len()) => {
+                // Here: a line of another form fills none.
+                let mut text = [b'0'; MOST];
                 wire::put_bytes(&mut text, zeros, rest);
                 sent(to, &mut self.last, kind, first(&text, zeros + rest.len()))
             }
@@ -91,5 +93,11 @@ impl Answers for Expiry {
 
 fn main(rt: HostRuntime) -> io::Result<()> {
     let mut program = Expiry { last: None };
-    each_line(&mut rt.reader(), &mut io::writer(&rt), &mut program)
+    each_line(
+        &mut rt.reader(),
+        &mut Output {
+            to: io::writer(&rt),
+        },
+        &mut program,
+    )
 }

@@ -11,6 +11,7 @@ mod names;
 use session::lookup::sheet;
 use session::table::Column;
 use std::io::{self, Write};
+use text_lines::output::Output;
 
 // The line of a phase and an instruction, with its column of the table.
 fn line<W: Write>(to: &mut W, at: u8, instruction: u32, column: Column) -> io::Result<()>
@@ -40,5 +41,7 @@ fn print<W: Write>(to: &mut W) -> io::Result<()> {
 }
 
 fn main(rt: HostRuntime) -> io::Result<()> {
-    print(&mut io::writer(&rt))
+    print(&mut Output {
+        to: io::writer(&rt),
+    })
 }

@@ -2,6 +2,7 @@
 use crate::text::{Texts, refused};
 use basex_request::Requested;
 use std::io::{self, Write};
+use text_lines::print::hex;
 
 fn strings_of(kind: u8) -> usize {
     match basex::find(kind) {
@@ -13,7 +14,8 @@ fn strings_of(kind: u8) -> usize {
 fn print<W: Write>(to: &mut W, request: Requested, texts: &mut Texts<'_>) -> io::Result<()> {
     let kind = request.kind;
     let read = request.read;
-    write!(to, " 0 {read} {kind:02X}")?;
+    write!(to, " 0 {read} ")?;
+    hex(to, &[kind])?;
     let lengths = [request.first, request.second, request.third, request.fourth];
     for len in lengths.into_iter().take(strings_of(kind)) {
         texts.field(to, len, ' ')?;

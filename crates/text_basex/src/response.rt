@@ -4,6 +4,7 @@ use crate::text::{Texts, refused};
 use basex::Reply;
 use basex_response::{ItemAt, Replied};
 use std::io::{self, Write};
+use text_lines::print::hex;
 
 // What a response to the kind is made of; reading has refused other kinds before this is asked.
 fn reply_of(kind: u8) -> Reply {
@@ -78,7 +79,8 @@ fn print<W: Write>(
 ) -> io::Result<()> {
     let status = response.status;
     let read = response.read;
-    write!(to, " 0 {read} {status:02X}")?;
+    write!(to, " 0 {read} ")?;
+    hex(to, &[status])?;
     let reply = reply_of(kind);
     let ahead = basex::strings_ahead(reply);
     let which = error_ahead(reply, status);

@@ -29,6 +29,10 @@ pub fn fill<R: Read>(from: &mut R, buffer: &mut [u8]) -> usize
 {
     let mut n = 0;
     for _ in 0..buffer.len() {
+        // A read into no room would be one call more.
+        if n == buffer.len() {
+            break;
+        }
         match from.read(&mut buffer[n..]) {
             Ok(0) | Err(_) => break,
             Ok(got) => n += got,

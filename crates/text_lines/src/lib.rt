@@ -8,5 +8,6 @@ pub mod cut;
 pub mod input;
 pub mod lent;
 pub mod names;
+pub mod output;
 pub mod parse;
 pub mod print;

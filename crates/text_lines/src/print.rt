@@ -2,10 +2,11 @@
 use std::io::{self, Write};
 use wire::first;
 
-// In capitals, as the papers write them.
+// In capitals, as the papers write them. A byte is one write: `{b:02X}` makes two where a 0 stands in front.
 pub fn hex<W: Write>(out: &mut W, s: &[u8]) -> io::Result<()> {
+    let digits = *b"0123456789ABCDEF";
     for b in s {
-        write!(out, "{b:02X}")?;
+        out.write_all(&[digits[usize::from(*b / 16)], digits[usize::from(*b % 16)]])?;
     }
     Ok(())
 }

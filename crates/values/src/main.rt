@@ -10,6 +10,7 @@ use std::io::{self, Write};
 use text_lines::answers::{Answers, each_line};
 use text_lines::cut::{behind, front};
 use text_lines::input::asks;
+use text_lines::output::Output;
 use text_lines::parse::SPACE;
 use wire::{Refusal, first};
 
@@ -51,5 +52,11 @@ impl Answers for Values {
 }
 
 fn main(rt: HostRuntime) -> io::Result<()> {
-    each_line(&mut rt.reader(), &mut io::writer(&rt), &mut Values)
+    each_line(
+        &mut rt.reader(),
+        &mut Output {
+            to: io::writer(&rt),
+        },
+        &mut Values,
+    )
 }

@@ -16,6 +16,7 @@ use std::io::{self, Write};
 use text_lines::answers::{Answers, all_lines};
 use text_lines::cut::{behind, front};
 use text_lines::input::asks;
+use text_lines::output::Output;
 
 #[derive(Drop)]
 struct Vectors;
@@ -36,5 +37,11 @@ impl Answers for Vectors {
 }
 
 fn main(rt: HostRuntime) -> io::Result<()> {
-    all_lines(&mut rt.reader(), &mut io::writer(&rt), &mut Vectors)
+    all_lines(
+        &mut rt.reader(),
+        &mut Output {
+            to: io::writer(&rt),
+        },
+        &mut Vectors,
+    )
 }

@@ -21,6 +21,7 @@ use std::io::{self, Write};
 use text_lines::answers::{Answers, all_lines};
 use text_lines::cut::{behind, front};
 use text_lines::input::asks;
+use text_lines::output::Output;
 use text_lines::parse::SPACE;
 use wire::first;
 
@@ -63,5 +64,11 @@ impl Answers for Vectors {
 }
 
 fn main(rt: HostRuntime) -> io::Result<()> {
-    all_lines(&mut rt.reader(), &mut io::writer(&rt), &mut Vectors)
+    all_lines(
+        &mut rt.reader(),
+        &mut Output {
+            to: io::writer(&rt),
+        },
+        &mut Vectors,
+    )
 }
