@@ -59,6 +59,17 @@ run-within (b ∷ l) = by (special b) (run-within l)
     by true h = omega arith
     by false h = omega arith
 
+-- no more of it stands in the first m bytes
+pub run-taken : (m : ℕ) (l : List ℕ) → run (take m l) ≤ run l
+unfolding run
+run-taken zero l = omega arith
+run-taken (suc m) [] = omega arith
+run-taken (suc m) (b ∷ l) = by (special b) (run-taken m l)
+  where
+    by : (t : Bool) → run (take m l) ≤ run l → if t 0 (suc (run (take m l))) ≤ if t 0 (suc (run l))
+    by true h = omega arith
+    by false h = omega arith
+
 -- finding it: `plain_block` looks at byte i of the sixteen in front of l
 module _ (l : List ℕ) (i : ℕ) (p : Bool) (few : i < 16) (h : i < length l) (e : p ≡ leb i (run l)) where
   pub block_special : special (get_or (take 16 l) i 0) ≡ true → false ≡ leb (i + 1) (run l)

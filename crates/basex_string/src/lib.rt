@@ -5,7 +5,7 @@
 
 ghost use Rattle.std.specs.Prelude.{Ok, not, false, ◌≡◌, [], ◌∷◌, ◌++◌, ◌+◌, ◌*◌, ◌≤◌, ◌<◌, min, eqb, leb, length, drop, get_or};
 ghost use Rattle.wire.specs.Bytes.{if, splice};
-ghost use Rattle.wire.specs.Call.{in_room, Gives, Writes};
+ghost use Rattle.wire.specs.Call.{in_room, put_at, Gives, Writes};
 ghost use Rattle.basex_string.specs.Strings.{special, string};
 ghost use Rattle.basex_string.specs.Scan.{reading};
 ghost use Rattle.basex_string.specs.Answers.{located, decoded, output_read};
@@ -133,6 +133,17 @@ fn store_few(out: &mut [u8], at: usize, part: &[u8]) -> usize
     to
 }
 
+// Sixteen bytes, by way of an array of its own, which overlaps neither slice: the compiler makes one move of it.
+#[inline(always)]
+fn put_block(out: &mut [u8], at: usize, block: &[u8])
+    requires { length block.now ≡ 16 }
+    ensures { out.new ≡ put_at out.old at block.now }
+{
+    let mut own = [0u8; 16];
+    own.copy_from_slice(block);
+    wire::put_bytes(out, at, &own);
+}
+
 // Blocks of plain bytes go in one move, others byte by byte. The 00 behind a part is written over by
 // what follows it.
 fn store_string(out: &mut [u8], at: usize, text: &[u8])
@@ -145,7 +156,7 @@ fn store_string(out: &mut [u8], at: usize, text: &[u8])
     while 16 <= text.len() - i {
         let end = i + 16;
         if plain_block(text, i) {
-            wire::put_bytes(out, to, &text[i..end]);
+            put_block(out, to, &text[i..end]);
             to += 16;
         } else {
             to = store_few(out, to, &text[i..end]);

@@ -9,7 +9,7 @@ ghost use Rattle.basex_string.specs.Unescaping.{unescaped, ended};
 
 // `bytes`, `from`, `out` and `to` apart, here and in lib.rt: both places move on by themselves, and a
 // struct of the four would be taken apart at each call.
-use crate::{Ends, is_special, plain_block};
+use crate::{Ends, is_special, plain_block, put_block, skip_blocks};
 
 // Blocks of plain bytes, moved as they are met, `most` bytes at most; the answer is how many bytes.
 fn put_blocks(bytes: &[u8], from: usize, out: &mut [u8], to: usize, most: usize) -> usize
@@ -20,10 +20,35 @@ fn put_blocks(bytes: &[u8], from: usize, out: &mut [u8], to: usize, most: usize)
     let mut k: usize = 0;
     // No iterator over blocks: where they end is the answer.
     while 16 <= most - k && plain_block(bytes, from + k) {
-        wire::put_bytes(out, to + k, &bytes[from + k..from + k + 16]);
+        put_block(out, to + k, &bytes[from + k..from + k + 16]);
         k += 16;
     }
     k
+}
+
+// The same, found first and moved in one go, which costs a call.
+fn put_far(bytes: &[u8], from: usize, out: &mut [u8], to: usize, most: usize) -> usize
+    requires { (from + most ≤ length bytes.now) × (to + most ≤ length out.old) }
+    ensures { (result ≤ most) × (result ≤ run (drop from bytes.now))
+        × (out.new ≡ splice out.old to (take result (drop from bytes.now))) }
+{
+    let part = &bytes[from..from + most];
+    let k = skip_blocks(part, 0);
+    wire::put_bytes(out, to, &part[..k]);
+    k
+}
+
+// The same: four blocks as they are met, and in one go what a long run has behind them.
+fn put_plain(bytes: &[u8], from: usize, out: &mut [u8], to: usize, most: usize) -> usize
+    requires { (from + most ≤ length bytes.now) × (to + most ≤ length out.old) }
+    ensures { (result ≤ most) × (result ≤ run (drop from bytes.now))
+        × (out.new ≡ splice out.old to (take result (drop from bytes.now))) }
+{
+    let few = put_blocks(bytes, from, out, to, most.min(64));
+    if few < 64 {
+        return few;
+    }
+    few + put_far(bytes, from + few, out, to + few, most - few)
 }
 
 // Plain bytes one by one, `most` at most; the answer is how many.
@@ -48,7 +73,7 @@ fn put_run(bytes: &[u8], from: usize, out: &mut [u8], to: usize) -> usize
         (splice out.old to (take result (drop from bytes.now))) result out.new }
 {
     let most = (bytes.len() - from).min(out.len() - to);
-    let blocks = put_blocks(bytes, from, out, to, most);
+    let blocks = put_plain(bytes, from, out, to, most);
     blocks + put_singles(bytes, from + blocks, out, to + blocks, most - blocks)
 }
 

@@ -8,8 +8,6 @@ use native.Mathlib.Nat.{suc-mul, zero-mul, div-eq_of_lt, div-eq-sub-div, le-div_
 use native.Mathlib.Omega.{arith}
 use lib.Dec.{leb}
 use borrow.Author.Tests.{leb-true, leb-false}
-use Rattle.std.specs.Int.{div_ceil}
-use Rattle.std.proofs.lemmas.Grind.{div_ceil_times}
 use lib.ListN.{length, take, drop, get_elem?, length-drop}
 use lib.Seq.{drop-drop}
 use Rattle.parts_cut.specs.Cut.{pieces_up_to, pieces}
@@ -71,23 +69,6 @@ length-up_to (suc most) m (x ∷ s) p h =
 
 pub length-pieces : (m : ℕ) (s : List ℕ) → 0 < m → length (pieces m s) ≡ piece_count m (length s)
 length-pieces m s p = length-up_to (length s) m s p (omega arith)
-
--- the library's count
-pub count-ceil : (m n : ℕ) → 0 < m → div_ceil n m ≡ piece_count m n
-count-ceil m zero p = by (div_ceil zero m) (div_ceil_times zero m p).1
-  where
-    by : (c : ℕ) → c * m < zero + m → c ≡ 0
-    by zero h = refl
-    by (suc c) h = absurd (omega (arith, suc-mul c m))
-count-ceil m (suc n) p = by (div_ceil (suc n) m) (div_ceil_times (suc n) m p).0 (div_ceil_times (suc n) m p).1
-  where
-    by : (c : ℕ) → suc n ≤ c * m → c * m < suc n + m → c ≡ n / m + 1
-    by zero h k = absurd (omega (arith, zero-mul m))
-    by (suc c) h k =
-        let e : suc c * m ≡ c * m + m = suc-mul c m in
-        let low : c ≤ n / m = (le-div_iff_mul-le p).1 (omega arith) in
-        let high : n / m < suc c = (div-lt_iff_lt-mul p).1 (omega arith) in
-        omega arith
 
 -- the pieces that there are start ahead of the end, and no others
 pub within : (m n k : ℕ) → 0 < m → k < piece_count m n → k * m < n

@@ -32,7 +32,11 @@ fn piece_count(n: usize, m: usize) -> usize
     requires { 0 < m }
     ensures { result ≡ piece_count m n }
 {
-    n.div_ceil(m)
+    // Not `div_ceil`, which asks for the remainder too.
+    match n.checked_sub(1) {
+        Some(last) => last / m + 1,
+        None => 0,
+    }
 }
 
 // How many messages a statement of n bytes is cut into.

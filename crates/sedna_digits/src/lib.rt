@@ -28,11 +28,14 @@ fn grow(n: u64, digit: u64) -> u64
     requires { digit ≤ 9 }
     ensures { result ≡ grown n digit }
 {
-    if n < 922337203685477580 || n == 922337203685477580 && digit <= 8 {
-        n * 10 + digit
-    } else {
-        9223372036854776000 + (n % 400 * 10 + digit) % 400
+    // By itself: behind `||` both sides are judged for each digit.
+    if n < 922337203685477580 {
+        return n * 10 + digit;
     }
+    if n == 922337203685477580 && digit <= 8 {
+        return n * 10 + digit;
+    }
+    9223372036854776000 + (n % 400 * 10 + digit) % 400
 }
 
 // Where a run of digits ends, and the number that they are, as far as it is kept.
@@ -58,6 +61,7 @@ pub fn digits(s: &[u8], at: usize) -> Run
 }
 
 // The number of the two digits at `at`, if both bytes are digits.
+#[inline(always)]
 #[tactic(auto, unfolding(crate::specs::Digits::two_digits_at))]
 pub fn two_digits(s: &[u8], at: usize) -> Option<u64>
     ensures { result ≡ some_below 100 (two_digits_at s.now at) }
@@ -80,8 +84,27 @@ pub fn behind_sign(s: &[u8], at: usize) -> usize
 }
 
 // 10 to the k, and from 15 on 10 to the 15: no more digits are asked for.
+#[inline(always)]
 pub fn power(k: usize) -> u64
     ensures { result ≡ 10 ^ min k 15 }
 {
-    10u64.pow(k.min(15) as u32)
+    // Not `pow`, which multiplies for each call: an instant's nanoseconds and a double ask for one.
+    match k {
+        0 => 1,
+        1 => 10,
+        2 => 100,
+        3 => 1000,
+        4 => 10000,
+        5 => 100000,
+        6 => 1000000,
+        7 => 10000000,
+        8 => 100000000,
+        9 => 1000000000,
+        10 => 10000000000,
+        11 => 100000000000,
+        12 => 1000000000000,
+        13 => 10000000000000,
+        14 => 100000000000000,
+        _ => 1000000000000000,
+    }
 }

@@ -6,7 +6,7 @@ use lib.{Dec.eqb, Dec.leb, Dec.ltb, IntN.ℤ, IntN.pos, IntN.◌-ℤ◌, ListN.l
 use Rattle.wire.specs.{Bytes.if, declared.Refusal.TheVariants.NotOfForm, declared.Refusal.TheVariants.OutOfRange}
 use Rattle.sedna_instant.specs.{declared.fields.Clock.Clock, declared.fields.Fraction.Fraction, declared.fields.Year.Year}
 use Rattle.sedna_instant.specs.{declared.Instant.Instant, Calendar.month_length, Calendar.days_before}
-use Rattle.sedna_digits.specs.{declared.Run.Run, Digits.digits_at, Digits.two_digits_at, Digits.some_below}
+use Rattle.sedna_digits.specs.{declared.Run.Run, Digits.digits_at, Digits.two_digits_at}
 
 -- a year as it stands there, and whether it has its form
 pub record YearAt : Type 0 where
@@ -54,10 +54,6 @@ clock_at s at = record {
 abbrev pub whole_clock : Clock → Option Clock
 whole_clock c =
     if (ltb c.month 100) (if (ltb c.day 100) (if (ltb c.hour 100) (if (ltb c.minute 100) (if (ltb c.second 100) (Some c) None) None) None) None) None
-
--- a mark at `at`, and the number of two digits behind it
-abbrev pub marked_there : List ℕ → ℕ → ℕ → Option ℕ
-marked_there s at mark = if (ltb (length s) (at + 3)) None (if (eqb (get_or s at 0) mark) (some_below 100 (two_digits_at s (at + 1))) None)
 
 -- all of it, where so many bytes are there, and those that are no digits stand among them
 abbrev pub clock_there : List ℕ → ℕ → Option Clock

@@ -46,6 +46,7 @@ fn days_ahead(month: u64) -> u64
 }
 
 // How many days of the year lie before the month.
+#[inline(always)]
 #[tactic(auto, using(crate::proofs::Days::leap_day, crate::proofs::Days::no_leap_day, crate::proofs::Days::ahead_335))]
 fn months_before(year: u64, month: u64) -> u64
     requires { IsMonth month }
@@ -60,6 +61,7 @@ fn months_before(year: u64, month: u64) -> u64
 }
 
 // How many days lie between 0001-01-01 and the date.
+#[inline(always)]
 #[tactic(auto, using(crate::proofs::Days::ahead_335, crate::proofs::Days::years_by_division), unfolding(crate::specs::Calendar::days_before))]
 pub fn day_count(year: u64, month: u64, day: u64) -> u64
     requires { InCalendar year month day }

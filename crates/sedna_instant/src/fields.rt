@@ -1,6 +1,6 @@
 // The fields of a dateTime by their places: the year, month to second, the fraction and the zone.
-ghost use Rattle.std.specs.Prelude.{◌≡◌};
-ghost use Rattle.sedna_instant.specs.DateTimes.{year_of, formed_year, marked_there, clock_there, fraction_at, formed_fraction, offset_at, zone_at};
+ghost use Rattle.std.specs.Prelude.{◌≡◌, ◌+◌, ◌≤◌, length};
+ghost use Rattle.sedna_instant.specs.DateTimes.{year_of, formed_year, marks_at, clock_there, fraction_at, formed_fraction, offset_at, zone_at};
 ghost use Rattle.sedna_digits.specs.Digits.{some_below};
 ghost use Rattle.sedna_instant.specs.inner.Bounds.{GivesWithin, FoundFits, ShiftBounded};
 
@@ -44,27 +44,35 @@ pub struct Clock {
     pub second: u64,
 }
 
-// A mark at `at`, and a number of two digits behind it.
-fn marked(s: &[u8], at: usize, mark: u8) -> Option<u64>
-    ensures { result ≡ marked_there s.now at mark }
+// The five bytes between those numbers.
+#[tactic(auto, unfolding(crate::specs::DateTimes::marks_at))]
+fn marks(s: &[u8], at: usize) -> bool
+    requires { at + 15 ≤ length s.now }
+    ensures { result ≡ marks_at s.now at }
 {
-    match s.get(at..)? {
-        [b, _, _, ..] if *b == mark => two_digits(s, at + 1),
-        _ => None,
-    }
+    s[at] == b'-'
+        && s[at + 3] == b'-'
+        && s[at + 6] == b'T'
+        && s[at + 9] == b':'
+        && s[at + 12] == b':'
 }
 
-// -MM-DDThh:mm:ss from `at` on.
-#[tactic(auto, unfolding(crate::specs::DateTimes::marks_at))]
+// -MM-DDThh:mm:ss from `at` on: one test of the room for all of it, then one of the marks.
 pub fn clock_at(s: &[u8], at: usize) -> Option<Clock>
     ensures { result ≡ clock_there s.now at }
 {
+    if !wire::has_room(s.len(), at, 15) {
+        return None;
+    }
+    if !marks(s, at) {
+        return None;
+    }
     Some(Clock {
-        month: marked(s, at, b'-')?,
-        day: marked(s, at + 3, b'-')?,
-        hour: marked(s, at + 6, b'T')?,
-        minute: marked(s, at + 9, b':')?,
-        second: marked(s, at + 12, b':')?,
+        month: two_digits(s, at + 1)?,
+        day: two_digits(s, at + 4)?,
+        hour: two_digits(s, at + 7)?,
+        minute: two_digits(s, at + 10)?,
+        second: two_digits(s, at + 13)?,
     })
 }
 

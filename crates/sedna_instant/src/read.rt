@@ -30,6 +30,7 @@ fn formed(y: Year, c: Clock, f: Fraction) -> bool
 
 // Seconds from 1970, of a date and time with what its zone adds. 62,135,683,200 are those from 0001-01-01 to 1970-01-01,
 // and the day that the zone has on top.
+#[inline(always)]
 #[tactic(auto, using(crate::proofs::Seconds::few_days, crate::proofs::Seconds::all_below))]
 fn seconds(year: u64, c: Clock, shift: u64) -> i64
     requires { SecondsFit year c shift }
@@ -41,6 +42,7 @@ fn seconds(year: u64, c: Clock, shift: u64) -> i64
 }
 
 // The digits of a fraction, at most nine, filled up to nine.
+#[inline(always)]
 #[tactic(auto, using(crate::proofs::Fractions::filled_up))]
 fn nanos(f: Fraction) -> u32
     requires { NanosFit f }
@@ -50,6 +52,7 @@ fn nanos(f: Fraction) -> u32
 }
 
 // 16 for a year that is none of 0001 to 9999, and more than nine digits behind the point.
+#[inline(always)]
 fn timed(y: Year, c: Clock, f: Fraction, shift: u64) -> Result<Instant, Refusal>
     requires { FieldsRead y c f shift }
     ensures { result ≡ timed_of (year_was y) c (fraction_was f) shift }

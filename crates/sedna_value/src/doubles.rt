@@ -72,9 +72,13 @@ fn exponent(s: &[u8], at: usize) -> bool
     requires { at < length s.now }
     ensures { result ≡ exponent_at s.now at }
 {
+    // First: the digits of a text that has no exponent are not looked at.
+    if !matches!(s[at], b'E' | b'e') {
+        return false;
+    }
     let start = behind_sign(s, at + 1);
     let end = digits(s, start).end;
-    matches!(s[at], b'E' | b'e') && end != start && end == s.len()
+    end != start && end == s.len()
 }
 
 // What a double is that has digits and no exponent: 16 for more than fifteen.

@@ -8,7 +8,9 @@ use lib.Seq.{sets, sets-eq, length-sets, length-take-le, take_at, take-add, take
 use borrow.Author.Tests.{lt-ltb, le-ltb}
 use borrow.Rule.Slice.PartMut.{put_mid}
 use Rattle.wire.specs.Bytes.{splice}
-use Rattle.wire.specs.Call.{put_at}
+use Rattle.std.specs.Prelude.{Result, Ok, Err}
+use Rattle.wire.specs.declared.Refusal.{Refusal}
+use Rattle.wire.specs.Call.{put_at, in_room, output_after}
 
 pub splice-sets : (d : List ℕ) (at : ℕ) (s : List ℕ) → at + length s ≤ length d → sets d at s ≡ splice d at s
 unfolding splice
@@ -49,6 +51,16 @@ splice-none d at =
 pub put_at-fits : (d : List ℕ) (at : ℕ) (s : List ℕ) → at + length s ≤ length d → put_at d at s ≡ splice d at s
 unfolding put_at
 put_at-fits d at s h = simp (le-ltb _ _ h)
+
+-- a write of nothing, whether or not there is room for it
+pub put_at-none : (d : List ℕ) (at : ℕ) (s : List ℕ) → length s ≡ 0 → put_at d at s ≡ d
+unfolding put_at
+put_at-none d at (x ∷ s) h = absurd (omega arith)
+put_at-none d at [] h = by (in_room (length d) at 0)
+  where
+    by : (a : Result ℕ Refusal) → output_after a d at [] ≡ d
+    by (Err r) = refl
+    by (Ok n) = splice-none d at
 
 pub put_at_not : (d : List ℕ) (at : ℕ) (s : List ℕ) → length d < at + length s → put_at d at s ≡ d
 unfolding put_at

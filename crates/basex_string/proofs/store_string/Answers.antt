@@ -32,12 +32,12 @@ loop-i-preserved-then-plain_block c =
     let i = c.loop-i.i in
     let k = leb-true 16 (run (drop i s)) (sym c.plain_block.ensures ∙ c.if-plain_block.true) in
     let z = run-size s i (i + 16) (omega arith) (omega arith) (omega arith) in (
-      c.put_bytes.auto.out ∙ c.loop-i.invariant.0,
+      c.put_block.auto.out ∙ c.loop-i.invariant.0,
       (
         omega arith,
         ahead-run (take (i + 16 - i) (drop i s))
             (run-string s i (i + 16) (omega arith) (omega arith)) (c.loop-i.to + 16)
-            c.loop-i.invariant.1.1 c.put_bytes.ensures (omega arith),
+            c.loop-i.invariant.1.1 c.put_block.ensures (omega arith),
       ),
     )
 

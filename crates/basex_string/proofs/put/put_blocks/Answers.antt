@@ -17,7 +17,7 @@ pub loop-k-preserved : goal.loop-k-preserved
 loop-k-preserved c =
     let a = c.args in
     let l = c.loop-k in
-    let m = c.put_bytes in
+    let m = c.put_block in
     let p = leb-true _ _ (sym c.plain_block.ensures ∙ c.if-plain_block.true) in
     let s = skip_next a.bytes.now a.from (a.from + l.k) 16 (omega arith) (omega arith) p in
     let z : a.from + l.k + 16 - (a.from + l.k) ≡ 16 = omega arith in (

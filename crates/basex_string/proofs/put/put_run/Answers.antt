@@ -13,7 +13,7 @@ counted here room most n left k m a b d e f = omega arith
 pub returns : goal.returns
 returns c =
     let a = c.args in
-    let k = c.put_blocks-blocks in
+    let k = c.put_plain-blocks in
     let m = c.put_singles in
     let w = run-within (drop a.from a.bytes.now) in
     let d = length-drop a.from a.bytes.now in
