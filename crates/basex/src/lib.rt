@@ -4,7 +4,7 @@
 
 ghost use Rattle.std.specs.Prelude.{◌≡◌, ◌+◌, ◌-◌, ◌≤◌, min, length, drop};
 ghost use Rattle.wire.specs.Call.{put_at, Gives};
-ghost use Rattle.basex.specs.Kinds.{find_of, row_byte, starts_command, columns_of, is_command, ahead, error_behind, behind};
+ghost use Rattle.basex.specs.Kinds.{kinds, find_of, row_byte, starts_command, columns_of, is_command, ahead, error_behind, behind};
 ghost use Rattle.basex.specs.Kinds.{listed, is_full, id_allowed, item_strings};
 ghost use Rattle.basex.specs.Texts.{place_if, string_if, texts, two_at, texts_stored, ends};
 
@@ -44,6 +44,14 @@ pub const KINDS: [Kind; 15] = [
     Kind(0x20, 1, Reply::Command),
 ];
 
+// The constant, tied to its definition.
+#[tactic(auto, unfolding(crate::specs::Kinds::kinds))]
+fn table() -> [Kind; 15]
+    ensures { result ≡ kinds }
+{
+    KINDS
+}
+
 // Whether a COMMAND starts with the byte.
 pub fn starts_command(b: u8) -> bool
     ensures { result ≡ starts_command b }
@@ -63,7 +71,7 @@ pub fn find(first: u8) -> Option<(usize, Reply)>
     ensures { result ≡ find_of first }
 {
     let b = row_byte(first);
-    for k in &KINDS {
+    for k in table() {
         if k.0 == b {
             return Some((k.1 as usize, k.2));
         }

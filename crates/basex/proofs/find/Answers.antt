@@ -1,25 +1,27 @@
-use mathlib.Core.Path.{refl, sym, ◌∙◌}
+use mathlib.Core.Path.{refl, sym, ap, ◌∙◌, ◌≡◌}
+use lib.ListN.{length}
 use native.Mathlib.Omega.{arith}
-use Rattle.basex.specs.Kinds.{kinds, find_of}
-use Rattle.basex.proofs.Scan.{hit, miss, past}
+use Rattle.basex.specs.Kinds.{find_of, search as scan}
+use Rattle.basex.proofs.Scan.{hit, miss, past, kinds_15}
 use Rattle.basex.proofs.find.Goals as goal
 
 pub loop-k-init : goal.loop-k-init
 unfolding find_of
-loop-k-init c =
-    rw c.row_byte-b.ensures refl
+loop-k-init c = (c.table-k-items.ensures, rw (c.row_byte-b.ensures, c.table-k-items.ensures) refl)
 
 pub returns-then-k-b : goal.returns-then-k-b
-unfolding kinds
 returns-then-k-b c =
-    sym (c.loop-k.invariant ∙ hit c.row_byte-b.result _ kinds c.loop-k.k-index c.loop-k-test.true c.if-k-b.true)
+    let n : length c.table-k-items.result ≡ 15 = ap length c.loop-k.invariant.0 ∙ kinds_15 in
+    sym (c.loop-k.invariant.1 ∙ hit c.row_byte-b.result _ c.table-k-items.result c.loop-k.k-index (omega arith) c.if-k-b.true)
 
 pub loop-k-preserved : goal.loop-k-preserved
-unfolding kinds
 loop-k-preserved c =
-    c.loop-k.invariant ∙ miss c.row_byte-b.result _ kinds c.loop-k.k-index c.loop-k-test.true c.if-k-b.false
+    let n : length c.table-k-items.result ≡ 15 = ap length c.loop-k.invariant.0 ∙ kinds_15 in (
+      c.loop-k.invariant.0,
+      c.loop-k.invariant.1 ∙ miss c.row_byte-b.result _ c.table-k-items.result c.loop-k.k-index (omega arith) c.if-k-b.false,
+    )
 
 pub returns : goal.returns
-unfolding kinds
 returns c =
-    sym (c.loop-k.invariant ∙ past c.row_byte-b.result kinds c.loop-k.k-index (omega arith))
+    let n : length c.table-k-items.result ≡ 15 = ap length c.loop-k.invariant.0 ∙ kinds_15 in
+    sym (c.loop-k.invariant.1 ∙ past c.row_byte-b.result c.table-k-items.result c.loop-k.k-index (omega arith))
