@@ -75,9 +75,13 @@ fn few_end(s: &[u8], from: usize) -> usize
     ensures { result ≡ from + min 16 (run (drop from s.now)) }
 {
     let mut at = from;
-    // No iterator: where the bytes end is the answer, and the compiler sees that sixteen are the most.
-    while at - from < 16 && at < s.len() && !is_special(s[at]) {
+    // No iterator: where the bytes end is the answer.
+    while at < s.len() && !is_special(s[at]) {
         at += 1;
+        // Behind the step, so that the compiler writes the sixteen turns out.
+        if at - from == 16 {
+            return at;
+        }
     }
     at
 }
@@ -270,9 +274,13 @@ fn put_pairs(bytes: &[u8], from: usize, out: &mut [u8], to: usize, most: usize) 
 {
     let mut n: usize = 0;
     // No iterator: of two bytes read one is stored.
-    while n < most && n < 8 && bytes[from + 2 * n] == 255 {
+    while n < most && bytes[from + 2 * n] == 255 {
         out[to + n] = bytes[from + 2 * n + 1];
         n += 1;
+        // Behind the store, so that the compiler writes the eight turns out.
+        if n == 8 {
+            return n;
+        }
     }
     n
 }

@@ -2,3 +2,5 @@ pub mod Fractions
 pub mod Days
 pub mod Seconds
 pub mod Readings
+pub mod Clocks
+pub mod Orders

@@ -14,35 +14,31 @@ fn leap_year(year: u64) -> bool
 pub fn month_length(year: u64, month: u64) -> u64
     ensures { result ≡ month_length year month }
 {
+    if month == 2 {
+        return if leap_year(year) { 29 } else { 28 };
+    }
+    // Apart, as February is, so that the `match` is looked up: a jump's way is guessed wrong from date to date.
+    if 12 < month {
+        return 0;
+    }
     match month {
-        2 if leap_year(year) => 29,
-        2 => 28,
+        0 => 0,
         4 | 6 | 9 | 11 => 30,
-        1..=12 => 31,
-        _ => 0,
+        _ => 31,
     }
 }
 
-// How many days of a year that is no leap year, as 1 is none, lie before the month.
+// How many days of a year that is no leap year, as 1 is none, lie before each month.
+const AHEAD: [u64; 12] = [0, 31, 59, 90, 120, 151, 181, 212, 243, 273, 304, 334];
+
+// Looked up likewise.
+#[inline(always)]
 #[tactic(auto, unfolding(crate::specs::Calendar::months_to))]
 fn days_ahead(month: u64) -> u64
     requires { IsMonth month }
     ensures { result ≡ months_to 1 (month - 1) }
 {
-    match month {
-        1 => 0,
-        2 => 31,
-        3 => 59,
-        4 => 90,
-        5 => 120,
-        6 => 151,
-        7 => 181,
-        8 => 212,
-        9 => 243,
-        10 => 273,
-        11 => 304,
-        _ => 334,
-    }
+    AHEAD[(month - 1) as usize]
 }
 
 // How many days of the year lie before the month.

@@ -57,23 +57,28 @@ fn marks(s: &[u8], at: usize) -> bool
         && s[at + 12] == b':'
 }
 
-// -MM-DDThh:mm:ss from `at` on: one test of the room for all of it, then one of the marks.
-pub fn clock_at(s: &[u8], at: usize) -> Option<Clock>
-    ensures { result ≡ clock_there s.now at }
+// -MM-DDThh:mm:ss in front of `s`. The room is judged once, and with no `at` to add to, it is known at each number.
+#[inline(always)]
+fn clock_in_front(s: &[u8]) -> Option<Clock>
+    ensures { result ≡ clock_there s.now 0 }
 {
-    if !wire::has_room(s.len(), at, 15) {
-        return None;
-    }
-    if !marks(s, at) {
+    if s.len() < 15 || !marks(s, 0) {
         return None;
     }
     Some(Clock {
-        month: two_digits(s, at + 1)?,
-        day: two_digits(s, at + 4)?,
-        hour: two_digits(s, at + 7)?,
-        minute: two_digits(s, at + 10)?,
-        second: two_digits(s, at + 13)?,
+        month: two_digits(s, 1)?,
+        day: two_digits(s, 4)?,
+        hour: two_digits(s, 7)?,
+        minute: two_digits(s, 10)?,
+        second: two_digits(s, 13)?,
     })
+}
+
+// The same from `at` on.
+pub fn clock_at(s: &[u8], at: usize) -> Option<Clock>
+    ensures { result ≡ clock_there s.now at }
+{
+    clock_in_front(s.get(at..)?)
 }
 
 // A point and digits, or nothing at all.
@@ -107,15 +112,16 @@ pub fn fraction_at(s: &[u8], at: usize) -> Option<Fraction>
     })
 }
 
-// hh:mm at `at`, with which the text ends, in minutes, up to 14:00.
+// hh:mm, and nothing behind it, in minutes, up to 14:00.
+#[inline(always)]
 #[tactic(auto, unfolding(crate::specs::DateTimes::offset_at))]
-fn offset(s: &[u8], at: usize) -> Option<u64>
-    ensures { result ≡ some_below 841 (offset_at s.now at) }
+fn offset_alone(s: &[u8]) -> Option<u64>
+    ensures { result ≡ some_below 841 (offset_at s.now 0) }
 {
-    match s.get(at..)? {
+    match s {
         [_, _, b':', _, _] => {
-            let hours = two_digits(s, at)?;
-            let minutes = two_digits(s, at + 3)?;
+            let hours = two_digits(s, 0)?;
+            let minutes = two_digits(s, 3)?;
             let all = hours * 60 + minutes;
             if minutes <= 59 && all <= 840 {
                 Some(all)
@@ -125,6 +131,14 @@ fn offset(s: &[u8], at: usize) -> Option<u64>
         }
         _ => None,
     }
+}
+
+// The same at `at`, with which the text ends.
+#[tactic(auto, unfolding(crate::specs::DateTimes::offset_at))]
+fn offset(s: &[u8], at: usize) -> Option<u64>
+    ensures { result ≡ some_below 841 (offset_at s.now at) }
+{
+    offset_alone(s.get(at..)?)
 }
 
 // Z, or a sign and an offset, up to the text's end. What is added to local time, in seconds on top of a day, so that it

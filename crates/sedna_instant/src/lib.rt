@@ -21,8 +21,16 @@ pub struct Instant {
 }
 
 // How the first instant lies to the second: by seconds, then by nanoseconds, and by nothing else.
+#[tactic(auto, unfolding(crate::specs::Orders::ordered))]
 pub fn compare(a: Instant, b: Instant) -> Ordering
     ensures { result ≡ ordered a b }
 {
-    a.cmp(&b)
+    // Not the derived order, which judges both fields for each pair.
+    if a.seconds == b.seconds {
+        a.nanos.cmp(&b.nanos)
+    } else if a.seconds < b.seconds {
+        Ordering::Less
+    } else {
+        Ordering::Greater
+    }
 }

@@ -43,6 +43,16 @@ bounds-bytes-from-in-loop-n c =
     let h = text-two a.bytes.now (a.from + 2 * n) (omega arith) c.if-bytes-from.true in
     omega arith
 
+pub returns-then-n-eq8 : goal.returns-then-n-eq8
+returns-then-n-eq8 c =
+    let a = c.args in
+    let n = c.loop-n.n in
+    let h = text-two a.bytes.now (a.from + 2 * n) (omega arith) c.if-bytes-from.true in
+    let v = c.loop-n.invariant in
+    let e = behind-next a.bytes.now a.from n (omega arith) c.if-bytes-from.true in
+    let l = ap length e in
+    (record { some = omega arith; adds = omega arith; makes = (ahead-one a.to n e v.1.1.1).makes }, omega arith)
+
 pub loop-n-preserved : goal.loop-n-preserved
 loop-n-preserved c =
     let a = c.args in
@@ -55,10 +65,5 @@ loop-n-preserved c =
 
 pub returns-after-loop-n : goal.returns-after-loop-n
 returns-after-loop-n c =
-    let v = c.loop-n.invariant in
-    (record { some = omega arith; adds = v.1.1.0; makes = v.1.1.1.makes }, v.1.0)
-
-pub returns-else-n-lt8 : goal.returns-else-n-lt8
-returns-else-n-lt8 c =
     let v = c.loop-n.invariant in
     (record { some = omega arith; adds = v.1.1.0; makes = v.1.1.1.makes }, v.1.0)

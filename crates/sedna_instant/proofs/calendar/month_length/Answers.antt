@@ -1,8 +1,8 @@
 use mathlib.Core.Path.{sym, ◌∙◌}
 use Rattle.sedna_instant.proofs.calendar.month_length.Goals as goal
 
-pub returns-in-2 : goal.returns-in-2
-returns-in-2 c = rw (c.in-2.is, sym c.leap_year.ensures ∙ c.if-leap_year.true)
+pub returns-then-leap_year : goal.returns-then-leap_year
+returns-then-leap_year c = rw (c.if-month-eq2.true, sym c.leap_year.ensures ∙ c.if-leap_year.true)
 
-pub returns-in-2-2 : goal.returns-in-2-2
-returns-in-2-2 c = rw (c.in-2.is, sym c.leap_year.ensures ∙ c.if-leap_year.false)
+pub returns-else-leap_year : goal.returns-else-leap_year
+returns-else-leap_year c = rw (c.if-month-eq2.true, sym c.leap_year.ensures ∙ c.if-leap_year.false)
