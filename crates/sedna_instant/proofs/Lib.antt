@@ -3,4 +3,3 @@ pub mod Days
 pub mod Seconds
 pub mod Readings
 pub mod Clocks
-pub mod Orders

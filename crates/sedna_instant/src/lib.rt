@@ -14,23 +14,40 @@ mod fields;
 pub mod read;
 
 // Seconds from 1970-01-01T00:00:00Z, and nanoseconds on top, before 1970 too.
-#[derive(Clone, Copy, PartialEq, Eq, PartialOrd, Ord)]
+#[derive(Clone, Copy, PartialEq, Eq, PartialOrd)]
 pub struct Instant {
     pub seconds: i64,
     pub nanos: u32,
 }
 
+// The derived order, which `PartialOrd` has, judges both fields for each pair. This one is the same, as its laws say.
+impl Ord for Instant {
+    ghost use Rattle.std.specs.Cmp.Rules.{comparing};
+    ghost use Rattle.std.specs.Ordering.{on, then_cmp, int_cmp, nat_cmp};
+    ghost use Rattle.std.proofs.Common.{rules};
+
+    ghost cmp = { then_cmp (on (λ a. a.seconds) int_cmp) (on (λ a. a.nanos) nat_cmp) };
+
+    ghost total = { Prim.search comparing };
+
+    ghost matches_partial_cmp = { Prim.search (comparing, rules) };
+
+    ghost matches_eq = { Prim.search (comparing, rules) };
+
+    fn cmp(&self, other: &Instant) -> Ordering {
+        if self.seconds == other.seconds {
+            self.nanos.cmp(&other.nanos)
+        } else if self.seconds < other.seconds {
+            Ordering::Less
+        } else {
+            Ordering::Greater
+        }
+    }
+}
+
 // How the first instant lies to the second: by seconds, then by nanoseconds, and by nothing else.
-#[tactic(auto, unfolding(crate::specs::Orders::ordered))]
 pub fn compare(a: Instant, b: Instant) -> Ordering
     ensures { result ≡ ordered a b }
 {
-    // Not the derived order, which judges both fields for each pair.
-    if a.seconds == b.seconds {
-        a.nanos.cmp(&b.nanos)
-    } else if a.seconds < b.seconds {
-        Ordering::Less
-    } else {
-        Ordering::Greater
-    }
+    a.cmp(&b)
 }
